@@ -1,0 +1,3 @@
+pub mod Strips
+pub mod Rehearsals
+pub mod Examples
