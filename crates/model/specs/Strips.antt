@@ -3,6 +3,7 @@
 --   Problem     facts and actions by number, a goal, a start
 --   Lawful      the limits that every task keeps
 --   State       which facts stand
+--   entered, struck   the state with one fact made to stand, or to fall
 --   May, step   an action may be taken in a state; the state after it
 --   Path, after actions may be taken in turn; the state after the last
 --   Plan        a path after which the goal stands
@@ -74,6 +75,18 @@ names (x ∷ l) f = eqb x f || names l f
 abbrev pub these : List ℕ → State
 these l = names l
 
+-- s with f made to stand
+abbrev pub entered : ℕ → State → State
+entered f s g = eqb f g || s g
+
+-- s with f made to fall
+abbrev pub struck : ℕ → State → State
+struck f s g = not (eqb f g) && s g
+
+-- s with the facts of d removed, then those of a put in
+abbrev pub changed : State → State → State → State
+changed d a s f = (s f && not (d f)) || a f
+
 abbrev pub no-action : Action
 no-action = record { pre = []; add = []; del = [] }
 
@@ -87,7 +100,7 @@ May p a s = (a < length (p .actions)) × Every (Stands s) (action p a .pre)
 
 -- the state after it: its deletes removed, then its adds put in
 unfoldable pub step : Problem → ℕ → State → State
-step p a s f = (s f && not (names (action p a .del) f)) || names (action p a .add) f
+step p a s = changed (these (action p a .del)) (these (action p a .add)) s
 
 unfoldable pub Goal : Problem → State → Type 0
 Goal p s = Every (Stands s) (p .goal)

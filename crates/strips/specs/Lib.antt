@@ -1,0 +1,5 @@
+pub mod Lists
+pub mod Standing
+pub mod Actions
+pub mod Fitting
+pub mod Tasks

@@ -1,0 +1,10 @@
+// Tasks, states, and rehearsals of plans.
+pub mod fault;
+pub mod list;
+pub mod lists;
+pub mod state;
+pub mod states;
+pub mod action;
+pub mod actions;
+pub mod task;
+pub mod tasks;
