@@ -33,6 +33,6 @@ impl<const N: usize> FactList<N> {
     pub fn as_slice(&self) -> &[u8]
         ensures { λ r. ⌜ now r ≡ listed (now (self .entry)) ⌝ }
     {
-        &self.facts[0..self.count]
+        &self.facts[..self.count]
     }
 }
