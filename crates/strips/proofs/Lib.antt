@@ -1,0 +1,4 @@
+pub mod Bits
+pub mod Words
+pub mod Naming
+pub mod Keeping
