@@ -1,0 +1,49 @@
+-- Faults by number, line and place, and what looking at a line's frame answers. Assumes nothing.
+--
+--   frame-shown   a frame fault by number, line and place
+--   load-shown    the same of a load fault
+--   Checked       what testing a line's frame answers
+--   Next-frame    what reading the next line as the frame that is due answers
+use mathlib.Core.Path.{_≡_}
+use mathlib.Core.Logic.{_⊎_}
+use mathlib.Core.List.{List}
+use Prim.Native.Nat.{ℕ}
+use Rattle.std.specs.declared.option.Option.the-variants.{Some, None}
+use Rattle.std.specs.declared.result.Result.{Result}
+use Rattle.std.specs.declared.result.Result.the-variants.{Ok, Err}
+use Rattle.textspec.specs.declared.due.Due.{Due}
+use Rattle.textspec.specs.Hex.{First-fault, Line-is}
+use Rattle.textspec.specs.Refusals.{refusal}
+use Rattle.textspec.specs.Texts.{Fault, Frame-fault}
+use Rattle.hexline.specs.declared.line.Line.{Line as CodeLine}
+use Rattle.hexline.specs.Lines.{shown, bytes-of, Sound}
+use Rattle.tasktext.specs.declared.fault.FrameFault.{FrameFault}
+use Rattle.tasktext.specs.declared.fault.FrameFault.the-variants.{Line, NotDue, Length, Bounds, Rising}
+use Rattle.tasktext.specs.declared.fault.LoadFault.{LoadFault}
+use Rattle.tasktext.specs.declared.fault.LoadFault.the-variants.{Frame, Early}
+
+-- the line layer's 1, 2 and 7, and the frame layer's 3 to 6
+abbrev pub frame-shown : FrameFault → Fault
+frame-shown (Line e) = shown e
+frame-shown (NotDue p) = record { number = 3; line = p .line; place = p .at }
+frame-shown (Length p) = record { number = 4; line = p .line; place = p .at }
+frame-shown (Bounds p) = record { number = 5; line = p .line; place = p .at }
+frame-shown (Rising p) = record { number = 6; line = p .line; place = p .at }
+
+-- the load layer's 7, and the others as they came
+abbrev pub load-shown : LoadFault → Fault
+load-shown (Frame e) = frame-shown e
+load-shown (Early p) = record { number = 7; line = p .line; place = p .at }
+
+-- the frame passes every test, or the fault is the first, in the line's number
+abbrev pub Checked : Due → CodeLine → Result (Unit {0}) FrameFault → Type 0
+Checked due l (Ok _) = refusal due (bytes-of l) ≡ None
+Checked due l (Err e) =
+    (refusal due (bytes-of l) ≡ Some (record { number = frame-shown e .number; place = frame-shown e .place })) × (frame-shown e .line ≡ l .number)
+
+-- the next line, whose frame is due and passes; or the line's first fault, and then the text stays
+abbrev pub Next-frame : Due → ℕ → List ℕ → List ℕ → Result CodeLine FrameFault → Type 0
+Next-frame due number text rest (Ok l) = Sound l × Line-is text rest (bytes-of l) × (refusal due (bytes-of l) ≡ None)
+Next-frame due number text rest (Err e) =
+    (rest ≡ text) × (frame-shown e .line ≡ number)
+    × (First-fault text (frame-shown e .number) (frame-shown e .place) ⊎ Frame-fault due text (frame-shown e .number) (frame-shown e .place))

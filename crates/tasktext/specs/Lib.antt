@@ -1,0 +1,4 @@
+pub mod Faults
+pub mod Stage
+pub mod Loads
+pub mod Reading
