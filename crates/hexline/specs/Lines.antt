@@ -2,7 +2,6 @@
 --
 --   bytes-of    the bytes that a line states
 --   left        the text that a reader has still to read
---   shown       a line fault by number, line and column
 --   Sound       what every line has that a reader gave
 --   Read-line   what the next line of a text is answered with
 use Prim.Native.Nat.{ℕ, _%_, _<_, _≤_}
@@ -13,11 +12,10 @@ use lib.ListN.{drop, length}
 use Rattle.std.specs.declared.result.Result.{Result}
 use Rattle.std.specs.declared.result.Result.the-variants.{Ok, Err}
 use Rattle.textspec.specs.Hex.{bytes, digits-only, First-fault, Line-is}
-use Rattle.textspec.specs.Texts.{Fault}
 use Rattle.hexline.specs.declared.line.Line.{Line}
 use Rattle.hexline.specs.declared.line.Reader.{Reader}
-use Rattle.hexline.specs.declared.fault.LineFault.{LineFault}
-use Rattle.hexline.specs.declared.fault.LineFault.the-variants.{Digit, Long, Early}
+use Rattle.textfault.specs.declared.fault.LineFault.{LineFault}
+use Rattle.textfault.specs.Shown.{line-shown}
 
 -- the bytes that a line states
 abbrev pub bytes-of : Line → List ℕ
@@ -26,12 +24,6 @@ bytes-of l = bytes (l .digits .now)
 -- the text that is still to be read
 abbrev pub left : Reader → List ℕ
 left r = drop (r .start) (r .text .now)
-
--- a fault by number, line and column
-abbrev pub shown : LineFault → Fault
-shown (Digit p) = record { number = 1; line = p .line; place = p .at }
-shown (Long p) = record { number = 2; line = p .line; place = p .at }
-shown (Early p) = record { number = 7; line = p .line; place = p .at }
 
 -- what every line has that a reader gave: an even number of digits, 2 to 514
 pub record Sound (l : Line) : Type 0 where
@@ -43,4 +35,4 @@ pub record Sound (l : Line) : Type 0 where
 -- the line with which the text begins, or its first fault, and then the text stays
 abbrev pub Read-line : ℕ → List ℕ → List ℕ → Result Line LineFault → Type 0
 Read-line number text rest (Ok l) = Sound l × (l .number ≡ number) × Line-is text rest (bytes-of l)
-Read-line number text rest (Err e) = (rest ≡ text) × (shown e .line ≡ number) × First-fault text (shown e .number) (shown e .place)
+Read-line number text rest (Err e) = (rest ≡ text) × (line-shown e .line ≡ number) × First-fault text (line-shown e .number) (line-shown e .place)

@@ -7,10 +7,10 @@ ghost use lib.ListN.{length, getD};
 ghost use Rattle.std.specs.Options.{Cases as BySome};
 ghost use Rattle.textspec.specs.Hex.{is-digit, Digits-before};
 ghost use Rattle.hexline.specs.Lines.{left, Read-line};
-use crate::fault::LineFault;
-use crate::fault::Place;
 use crate::line::Line;
 use crate::line::Reader;
+use textfault::fault::LineFault;
+use textfault::fault::Place;
 
 fn is_digit(c: u8) -> bool
     ensures { λ r. ⌜ r ≡ is-digit c ⌝ }

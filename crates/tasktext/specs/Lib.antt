@@ -1,4 +1,4 @@
-pub mod Faults
+pub mod Framing
 pub mod Stage
 pub mod Loads
 pub mod Reading

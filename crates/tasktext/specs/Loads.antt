@@ -24,9 +24,9 @@ use Rattle.textspec.specs.Refusals.{refusal}
 use Rattle.textspec.specs.Order.{due-after}
 use Rattle.textspec.specs.Texts.{Line-fault}
 use Rattle.tasktext.specs.declared.load.Load.{Load}
-use Rattle.tasktext.specs.declared.fault.LoadFault.{LoadFault}
-use Rattle.tasktext.specs.declared.fault.LoadFault.the-variants.{Frame, Early}
-use Rattle.tasktext.specs.Faults.{frame-shown}
+use Rattle.textfault.specs.declared.fault.LoadFault.{LoadFault}
+use Rattle.textfault.specs.declared.fault.LoadFault.the-variants.{Frame, Early}
+use Rattle.textfault.specs.Shown.{frame-shown}
 use Rattle.tasktext.specs.Stage.{before}
 
 abbrev pub acts-of : Load → List Action

@@ -5,11 +5,11 @@ ghost use Prim.Native.Nat.{ℕ, _+_, _-_, _*_, _<_, _≤_};
 ghost use lib.ListN.{length, getD};
 ghost use Rattle.hexline.specs.Lines.{Sound, bytes-of};
 ghost use Rattle.textspec.specs.Refusals.{not-due, whole, out-of-bounds, follows, not-rising};
-ghost use Rattle.tasktext.specs.Faults.{Checked};
+ghost use Rattle.tasktext.specs.Framing.{Checked};
 use crate::bytes::byte;
 use crate::bytes::len;
-use crate::fault::FrameFault;
-use hexline::fault::Place;
+use textfault::fault::FrameFault;
+use textfault::fault::Place;
 use hexline::line::Line;
 use textspec::due::Due;
 

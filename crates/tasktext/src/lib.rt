@@ -1,5 +1,4 @@
-// Task texts: lines read into a load, a load closed into a task, faults in layers.
-pub mod fault;
+// Task texts: lines taken by a load, a load closed into a task, a whole text read.
 pub mod load;
 pub mod taking;
 pub mod text;

@@ -8,7 +8,7 @@ use Rattle.textspec.specs.Frames.{frames-of}
 use Rattle.strips.specs.Lists.{listed}
 use Rattle.strips.specs.Tasks.{flaw}
 use Rattle.strips.proofs.Keeping.{lawful}
-use Rattle.tasktext.specs.declared.fault.LoadFault.the-variants.{Early}
+use Rattle.textfault.specs.declared.fault.LoadFault.the-variants.{Early}
 use Rattle.tasktext.proofs.Flawless.{clash}
 use Rattle.tasktext.proofs.Meant.{whole, due-is, flawless-load}
 use Rattle.tasktext.proofs.load.Load.close.Needs as need

@@ -6,7 +6,7 @@ use Rattle.textspec.specs.Hex.{First-fault}
 use Rattle.textspec.specs.Refusals.{refusal}
 use Rattle.textspec.specs.Texts.{Frame-fault}
 use Rattle.hexline.specs.Lines.{bytes-of, left}
-use Rattle.tasktext.specs.Faults.{frame-shown}
+use Rattle.textfault.specs.Shown.{frame-shown}
 use Rattle.tasktext.proofs.Meant.{due-is}
 use Rattle.tasktext.proofs.load.Load.take_line.Needs as need
 

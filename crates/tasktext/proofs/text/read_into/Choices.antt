@@ -2,7 +2,7 @@ use lib.ListN.{length}
 use Rattle.textspec.specs.Texts.{Begins}
 use Rattle.hexline.specs.Lines.{left}
 use Rattle.tasktext.specs.Loads.{taken}
-use Rattle.tasktext.proofs.text.read_task.Given as given
+use Rattle.tasktext.proofs.text.read_into.Given as given
 
 abbrev pub Inv-loop-reader : given.InvT-loop-reader
 Inv-loop-reader l = Begins (l .text) (taken (l .load)) (left (l .reader))

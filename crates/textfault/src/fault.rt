@@ -1,11 +1,27 @@
 // What is wrong with a text, by the layer that finds it: the line's digits, its frame, the load, the reading of a whole text.
 ghost use mathlib.Core.Path.{_≡_};
-ghost use Rattle.tasktext.specs.declared.fault.FrameFault.the-variants.{Line};
-ghost use Rattle.tasktext.specs.declared.fault.LoadFault.the-variants.{Frame};
-ghost use Rattle.tasktext.specs.declared.fault.ReadFault.the-variants.{Memory, Text};
-use hexline::fault::LineFault;
-use hexline::fault::Place;
+ghost use Rattle.textfault.specs.declared.fault.FrameFault.the-variants.{Line};
+ghost use Rattle.textfault.specs.declared.fault.LoadFault.the-variants.{Frame};
+ghost use Rattle.textfault.specs.declared.fault.ReadFault.the-variants.{Memory, Text};
 use std::alloc::AllocError;
+
+// Where a fault is: the line from 1, and the column from 1 or the byte from 0.
+#[derive(Clone, Copy)]
+pub struct Place {
+    pub line: u16,
+    pub at: u16,
+}
+
+// What is wrong with the digits of a line.
+#[derive(Clone, Copy)]
+pub enum LineFault {
+    // 1: a bad digit, or the end of an odd or empty line.
+    Digit(Place),
+    // 2: the 515th digit.
+    Long(Place),
+    // 7: the text ends inside the line.
+    Early(Place),
+}
 
 // Why a line is not the frame that is due.
 #[derive(Clone, Copy)]

@@ -12,11 +12,11 @@ use Rattle.hexline.specs.Lines.{left}
 use Rattle.tasktext.specs.Loads.{taken}
 use Rattle.tasktext.proofs.Steps.{begins-more, shorter}
 use Rattle.tasktext.proofs.Ends.{at-line, at-end, stated}
-use Rattle.tasktext.proofs.text.read_task.Needs as need
+use Rattle.tasktext.proofs.text.read_into.Needs as need
 
 pub loop-reader-holds : need.loop-reader-holds
 loop-reader-holds c =
-    let e = c .in-Continue-load .ensures tt in
+    let e = c .pre in
     record {
       is = sym (c .new-reader .ensures) ∙ ap (λ fs. joined line-of fs ++ left (c .new-reader .result)) (sym e);
       turn = subst (In-turn []) (sym e) tt;
