@@ -1,3 +1,4 @@
 pub mod Strips
 pub mod Rehearsals
 pub mod Examples
+pub mod Figures
