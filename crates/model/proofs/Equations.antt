@@ -14,6 +14,7 @@ use Rattle.figure.specs.Ranks.{top, cut}
 use Rattle.model.specs.Strips.{Problem, State, items, action}
 use Rattle.model.specs.Figures.{Rule, Laws, Even, additive-rule, max-rule, Table, least, adders, Node, node, side, equations, Solves, One, Compares, One-table, Both-lawful}
 use Rattle.model.specs.Figures.Node.{standing, added-by, needing, absent}
+use Rattle.model.specs.Settling.{reads, Local, Moved}
 use Rattle.model.proofs.Causal.{Causal, System, one, compare}
 
 -- ---- what an item is
@@ -134,13 +135,6 @@ pub both-lawful : Both-lawful
 both-lawful = (additive-laws, max-laws)
 
 -- ---- an equation depends on what it reads alone
--- the items that an equation reads
-abbrev pub reads : Node → List ℕ
-reads standing = []
-reads (added-by acts) = acts
-reads (needing pre) = pre
-reads absent = []
-
 least-same : (x y : Table) (bs : List ℕ) → Every (λ q. y q ≡ x q) bs → least y bs ≡ least x bs
 least-same x y [] h = refl
 least-same x y (b ∷ bs) h = ap₂ min (h .0) (least-same x y bs (h .1))
@@ -155,14 +149,12 @@ side-same rule x y (added-by acts) h = ap (λ v. cut (v + 1)) (least-same x y ac
 side-same rule x y (needing pre) h = ap (λ vs. cut (rule vs + 1)) (map-same x y pre h)
 side-same rule x y absent h = refl
 
--- a change at q alone leaves the right-hand side of every item that does not read q
-pub local : (rule : Rule) (p : Problem) (s : State) (x y : Table) (q : ℕ) → ((r : ℕ) → r ≢ q → y r ≡ x r) → (r : ℕ) → Every (λ a. a ≢ q) (reads (node p s r)) → equations rule p s y r ≡ equations rule p s x r
+pub local : Local
 unfolding equations
 local rule p s x y q rest r h =
     side-same rule x y (node p s r) (all-weaker (λ a. a ≢ q) (λ a. y a ≡ x a) rest (reads (node p s r)) h)
 
--- where the standing facts change, only the facts that came or went have another equation
-pub moved : (rule : Rule) (p : Problem) (s u : State) (x : Table) (q : ℕ) → s q ≡ u q → equations rule p s x q ≡ equations rule p u x q
+pub moved : Moved
 unfolding equations node
 moved rule p s u x q e =
     ap (λ b. side rule x (cond (ltb q (p .facts)) (cond b standing (added-by (adders p q))) (cond (ltb q (items p)) (needing (action p (q - p .facts) .pre)) absent))) e

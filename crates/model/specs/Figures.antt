@@ -15,11 +15,12 @@ use mathlib.Core.Bool.{Bool, true, false, cond}
 use mathlib.Core.List.{List, [], _∷_, map}
 use mathlib.Core.Logic.{_⊎_}
 use Prim.Native.Nat.{ℕ, _+_, _-_, _*_, _%_, _≤_, _<_, min, max}
+use native.Mathlib.Decide.{decLe}
 use lib.Dec.{ltb}
 use lib.ListN.{length, getD}
 use Rattle.std.specs.shelf.Lists.{All as Every, Each}
 use Rattle.figure.specs.declared.figure.Figure.{Figure}
-use Rattle.figure.specs.declared.figure.Figure.the-variants.{None}
+use Rattle.figure.specs.declared.figure.Figure.the-variants.{None, Number}
 use Rattle.figure.specs.Ranks.{top, rank, cut, halved}
 use Rattle.model.specs.Strips.{Problem, Action, State, Lawful, items, names, action}
 
@@ -61,6 +62,11 @@ max-rule (v ∷ vs) = cut (max v (max-rule vs))
 -- a figure for each item
 abbrev pub Table : Type 0
 Table = ℕ → ℕ
+
+-- the figure of a rank
+unfoldable pub figure-of : ℕ → Figure
+unfolding decLe
+figure-of v = elim (decLe v 2000000) [ yes h ↦ Number (record { value = v; within = h }) | no _ ↦ None ]
 
 -- a list of figures as a table: none past its end
 abbrev pub table : List Figure → Table

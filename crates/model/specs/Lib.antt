@@ -2,3 +2,5 @@ pub mod Strips
 pub mod Rehearsals
 pub mod Examples
 pub mod Figures
+pub mod Docket
+pub mod Settling

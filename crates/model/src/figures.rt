@@ -1,5 +1,6 @@
 // The theory of figures: one function for each theorem.
 ghost use Rattle.model.specs.Figures.{Compares, One-table, Both-lawful, Parity};
+ghost use Rattle.model.specs.Settling.{Steps-keep, Settlings, Local, Moved};
 
 // A table at or above what the equations make of it is at or above every table that is at or below.
 pub fn compares() -> u8
@@ -25,6 +26,34 @@ pub fn both_lawful() -> u8
 // Facts have even figures and actions odd ones, so the goal figure is an exact half.
 pub fn parity() -> u8
     ensures { λ _. ⌜ Parity ⌝ }
+{
+    0
+}
+
+// A step of settling lowers no key and moves no final item.
+pub fn steps_keep() -> u8
+    ensures { λ _. ⌜ Steps-keep ⌝ }
+{
+    0
+}
+
+// From any figures, within two steps for each item, settling ends in the one table, and its rows are a docket.
+pub fn settlings() -> u8
+    ensures { λ _. ⌜ Settlings ⌝ }
+{
+    0
+}
+
+// Only the readers of a changed item can have another right-hand side.
+pub fn local_changes() -> u8
+    ensures { λ _. ⌜ Local ⌝ }
+{
+    0
+}
+
+// Where the standing facts change, only those facts have another equation.
+pub fn moved_facts() -> u8
+    ensures { λ _. ⌜ Moved ⌝ }
 {
     0
 }
