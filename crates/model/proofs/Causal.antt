@@ -57,7 +57,7 @@ unfoldable pub total : ℕ → Table → ℕ
 total zero x = 0
 total (suc n) x = x n + total n x
 
-falls : (x y : Table) → ((q : ℕ) → y q ≤ x q) → (n : ℕ) → (total n y ≤ total n x) × ((total n y < total n x) ⊎ ((q : ℕ) → q < n → y q ≡ x q))
+pub falls : (x y : Table) → ((q : ℕ) → y q ≤ x q) → (n : ℕ) → (total n y ≤ total n x) × ((total n y < total n x) ⊎ ((q : ℕ) → q < n → y q ≡ x q))
 unfolding total
 falls x y h zero = (omega arith, inr (λ q l. omega arith))
 falls x y h (suc n) =

@@ -5,3 +5,6 @@ pub mod Ranked
 pub mod Steps
 pub mod Tracks
 pub mod Runs
+pub mod Values
+pub mod Doubled
+pub mod Plans

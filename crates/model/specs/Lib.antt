@@ -4,3 +4,4 @@ pub mod Examples
 pub mod Figures
 pub mod Docket
 pub mod Settling
+pub mod Heuristics

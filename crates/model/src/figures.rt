@@ -1,5 +1,6 @@
 // The theory of figures: one function for each theorem.
 ghost use Rattle.model.specs.Figures.{Compares, One-table, Both-lawful, Parity};
+ghost use Rattle.model.specs.Heuristics.{Heuristics, Admissible};
 ghost use Rattle.model.specs.Settling.{Steps-keep, Settlings, Local, Moved};
 
 // A table at or above what the equations make of it is at or above every table that is at or below.
@@ -54,6 +55,20 @@ pub fn local_changes() -> u8
 // Where the standing facts change, only those facts have another equation.
 pub fn moved_facts() -> u8
     ensures { λ _. ⌜ Moved ⌝ }
+{
+    0
+}
+
+// h_add and h_max are determined by their equations, and the goal figures are their values, cut at the ceiling.
+pub fn heuristics_agree() -> u8
+    ensures { λ _. ⌜ Heuristics ⌝ }
+{
+    0
+}
+
+// The max rule's goal figure is at most the length of every plan, and none only where there is no plan.
+pub fn admissible() -> u8
+    ensures { λ _. ⌜ Admissible ⌝ }
 {
     0
 }
