@@ -8,3 +8,5 @@ pub mod Runs
 pub mod Values
 pub mod Doubled
 pub mod Plans
+pub mod Counts
+pub mod WorkedFigures

@@ -5,3 +5,4 @@ pub mod Figures
 pub mod Docket
 pub mod Settling
 pub mod Heuristics
+pub mod FigureExamples
