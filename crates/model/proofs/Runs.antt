@@ -6,14 +6,15 @@ use mathlib.Core.Logic.{_≢_, _⊎_, inl, inr, ⊎-elim}
 use Prim.Native.Nat.{ℕ, zero, suc, _+_, _*_, _≤_, _<_, min}
 use native.Mathlib.Omega.{arith}
 use lib.Dec.{ltb}
-use lib.ListN.{length, getD, set}
+use lib.ListN.{length, getD, set, length-append}
 use Rattle.std.proofs.shelf.Tests.{cases-lt, cases-eq, cond-both, ltb-true}
 use Rattle.figure.specs.declared.figure.Figure.{Figure}
+use Rattle.figure.specs.declared.figure.Figure.the-variants.{None}
 use Rattle.figure.specs.Ranks.{top, rank, cut}
 use Rattle.model.specs.Strips.{items}
-use Rattle.model.specs.Figures.{Table, table, figure-of, equations}
-use Rattle.model.specs.Docket.{Row}
-use Rattle.model.specs.Settling.{Consistent, key, Keys-from, next, Step, Settling, Settles, Steps-keep, Settlings}
+use Rattle.model.specs.Figures.{Table, table, figure-of, equations, Solves}
+use Rattle.model.specs.Docket.{Row, row}
+use Rattle.model.specs.Settling.{Consistent, key, Keys-from, next, Step, Settling, Settles, Steps-keep, Settlings, Settling-ends}
 use Rattle.model.specs.Settling.Settling.{begun, more}
 use Rattle.model.proofs.Causal.{System}
 use Rattle.model.proofs.Equations.{system}
@@ -77,6 +78,23 @@ module _ (n : ℕ) (F : Table → Table) (s : System n F) where
         further = can-step h (t .long);
         ended = within-solves n F s h₀ h k rows t;
       }
+
+  finish : (h₀ : List Figure) → length h₀ ≡ n → (u : ℕ) (h : List Figure) (rows : List Row) → Settling F h₀ h rows → 2 * n < u + length rows → (g : List Figure) × (all : List Row) × Settling F h₀ g all × Solves F (table g)
+  finish h₀ e zero h rows run l = absurd (omega (arith, settles h₀ h rows e run .few))
+  finish h₀ e (suc u) h rows run l =
+      let now = settles h₀ h rows e run in
+      ⊎-elim
+      (λ all. (h, rows, run, now .ended all))
+      (λ (r, _, off, _).
+          let (q, f, t) = now .further r off in
+          finish h₀ e u (set h q f) (rows ++ (row q (getD h q None) f ∷ [])) (more q f run t) (omega (arith, length-append rows (row q (getD h q None) f ∷ []))))
+      (least-key F (table h) n)
+
+  ends : (h₀ : List Figure) → length h₀ ≡ n → (g : List Figure) × (all : List Row) × Settling F h₀ g all × Solves F (table g)
+  ends h₀ e = finish h₀ e (suc (2 * n)) h₀ [] begun (omega arith)
+
+pub settling-ends : Settling-ends
+settling-ends rule laws p s h₀ e = ends (items p) (equations rule p s) (system rule laws p s) h₀ e
 
 pub settlings : Settlings
 settlings rule laws p s h₀ h rows e run = settles (items p) (equations rule p s) (system rule laws p s) h₀ h rows e run

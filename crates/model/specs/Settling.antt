@@ -4,7 +4,7 @@
 --   key          the smaller of the two
 --   Step         an inconsistent item of the least key gets its next figure
 --   Settling     steps in turn from some figures, with a row for each
---   Steps-keep, Settlings, Local, Moved   the theorems
+--   Steps-keep, Settlings, Settling-ends, Local, Moved   the theorems
 --
 -- In all of them F x is what the equations make of the held figures x.
 use mathlib.Core.Path.{_≡_}
@@ -83,6 +83,12 @@ Settlings =
     (rule : Rule) → Laws rule → (p : Problem) (s : State) (first figures : List Figure) (rows : List Row) →
     length first ≡ items p → Settling (equations rule p s) first figures rows →
     Settles (items p) (equations rule p s) first figures rows
+
+-- from any figures some settling leads to the one table
+abbrev pub Settling-ends : Type 0
+Settling-ends =
+    (rule : Rule) → Laws rule → (p : Problem) (s : State) (first : List Figure) → length first ≡ items p →
+    (figures : List Figure) × (rows : List Row) × Settling (equations rule p s) first figures rows × Solves (equations rule p s) (table figures)
 
 -- the items that an equation reads
 abbrev pub reads : Node → List ℕ

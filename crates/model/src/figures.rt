@@ -2,7 +2,7 @@
 ghost use Rattle.model.specs.FigureExamples.{Worked-figures};
 ghost use Rattle.model.specs.Figures.{Compares, One-table, Both-lawful, Parity};
 ghost use Rattle.model.specs.Heuristics.{Heuristics, Admissible};
-ghost use Rattle.model.specs.Settling.{Steps-keep, Settlings, Local, Moved};
+ghost use Rattle.model.specs.Settling.{Steps-keep, Settlings, Settling-ends, Local, Moved};
 
 // A table at or above what the equations make of it is at or above every table that is at or below.
 pub fn compares() -> u8
@@ -39,9 +39,16 @@ pub fn steps_keep() -> u8
     0
 }
 
-// From any figures, within two steps for each item, settling ends in the one table, and its rows are a docket.
+// A settling has at most two steps for each item, goes on while an item is inconsistent, and its rows are a docket.
 pub fn settlings() -> u8
     ensures { λ _. ⌜ Settlings ⌝ }
+{
+    0
+}
+
+// From any figures some settling leads to the one table.
+pub fn settling_ends() -> u8
+    ensures { λ _. ⌜ Settling-ends ⌝ }
 {
     0
 }
