@@ -61,9 +61,10 @@ pub falls : (x y : Table) → ((q : ℕ) → y q ≤ x q) → (n : ℕ) → (tot
 unfolding total
 falls x y h zero = (omega arith, inr (λ q l. omega arith))
 falls x y h (suc n) =
-    let ih = falls x y h n in
-    (omega (arith, h n),
-      ⊎-elim (λ l. inl (omega (arith, h n))) (λ same. ⊎-elim (λ l. inl (omega arith)) (λ g. inr (λ q l. ⊎-elim (λ e. omega (arith, h n, ap x e, ap y e)) (λ ne. same q (omega arith)) (cases-eq q n))) (cases-lt (y n) (x n))) (ih .1))
+    let ih = falls x y h n in (
+      omega (arith, h n),
+      ⊎-elim (λ l. inl (omega (arith, h n))) (λ same. ⊎-elim (λ l. inl (omega arith)) (λ g. inr (λ q l. ⊎-elim (λ e. omega (arith, h n, ap x e, ap y e)) (λ ne. same q (omega arith)) (cases-eq q n))) (cases-lt (y n) (x n))) (ih .1),
+    )
 
 -- one value falls, and the others stay
 pub falls-at : (x y : Table) (q : ℕ) → ((r : ℕ) → r ≢ q → y r ≡ x r) → y q < x q → (n : ℕ) → (total n y ≤ total n x) × (q < n → total n y < total n x)
@@ -83,9 +84,9 @@ module _ (n : ℕ) (F : Table → Table) (s : System n F) where
   descend zero x h down out = absurd (omega arith)
   descend (suc k) x h down out =
       let next : total n (F x) < total n x → (z : Table) × Solves F z =
-          λ l. descend k (F x) (omega arith) (λ q. s .causal x (F x) q (λ r _. down r)) (s .beyond x) in
+      λ l. descend k (F x) (omega arith) (λ q. s .causal x (F x) q (λ r _. down r)) (s .beyond x) in
       let stop : ((q : ℕ) → q < n → F x q ≡ x q) → (z : Table) × Solves F z =
-          λ same. (x, λ q. ⊎-elim (λ l. sym (same q l)) (λ l. out q l ∙ sym (s .beyond x q l)) (cases-lt q n)) in
+      λ same. (x, λ q. ⊎-elim (λ l. sym (same q l)) (λ l. out q l ∙ sym (s .beyond x q l)) (cases-lt q n)) in
       ⊎-elim next stop (falls x (F x) down n .1)
 
   pub one : One F

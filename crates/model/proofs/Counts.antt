@@ -47,9 +47,9 @@ counted n (w ∷ ws) e =
     let x : Table = λ r. length (rows-of r (w ∷ ws)) in
     let y : Table = λ r. length (rows-of r ws) in
     let more = total-more x y (w .item)
-            (λ r o. ap length (cond-false _ _ _ (ne-eqb (w .item) r (λ i. o (sym i)))))
-            (ap length (cond-true _ _ _ (eq-eqb (w .item) (w .item) refl)) ∙ (let k : suc (length (rows-of (w .item) ws)) ≡ length (rows-of (w .item) ws) + 1 = omega arith in k))
-            n .1 (e .0) in
+    (λ r o. ap length (cond-false _ _ _ (ne-eqb (w .item) r (λ i. o (sym i)))))
+    (ap length (cond-true _ _ _ (eq-eqb (w .item) (w .item) refl)) ∙ (let k : suc (length (rows-of (w .item) ws)) ≡ length (rows-of (w .item) ws) + 1 = omega arith in k))
+    n .1 (e .0) in
     omega (arith, more, counted n ws (e .1))
 
 -- the rows are as many as the changes

@@ -55,13 +55,13 @@ half-twice infinite = refl
 half-twice (finite n) =
     ⊎-elim
     (λ l.
-        let h = cond-true (ltb (cut (2 * n)) top) (cut (2 * n) / 2) top (lt-ltb _ _ (omega arith)) in
-        let c = cond-true (leb n 1000000) n top (le-leb _ _ (omega arith)) in
-        omega (arith, h, c))
+    let h = cond-true (ltb (cut (2 * n)) top) (cut (2 * n) / 2) top (lt-ltb _ _ (omega arith)) in
+    let c = cond-true (leb n 1000000) n top (le-leb _ _ (omega arith)) in
+    omega (arith, h, c))
     (λ l.
-        let h = cond-false (ltb (cut (2 * n)) top) (cut (2 * n) / 2) top (le-ltb _ _ (omega arith)) in
-        let c = cond-false (leb n 1000000) n top (lt-leb _ _ (omega arith)) in
-        omega (arith, h, c))
+    let h = cond-false (ltb (cut (2 * n)) top) (cut (2 * n) / 2) top (le-ltb _ _ (omega arith)) in
+    let c = cond-false (leb n 1000000) n top (lt-leb _ _ (omega arith)) in
+    omega (arith, h, c))
     (cases-lt n 1000001)
 
 -- over doubled costs the rule makes what the set costs, doubled
@@ -112,8 +112,8 @@ module _ (rule : Rule) (cost : Set-cost) (doubles : Doubles rule cost) (p : Prob
       let first : doubled j ≡ of-pre (a .pre) = ap doubled (let k : j ≡ j + 0 = omega arith in k) ∙ h 0 (omega arith) in
       ⊎-elim
       (λ b.
-          ap twice (cond-true _ _ _ b) ∙ twice-smaller (plus (finite 1) (cost g (a .pre))) (cheapest cost g f acts) ∙ ap₂ min (twice-one (cost g (a .pre)) ∙ ap fact-from (sym first)) rest ∙
-          sym (fact-min (doubled j) (least doubled (adding f (j + 1) acts))) ∙ ap (λ l. fact-from (least doubled l)) (sym (cond-true (names (a .add) f) (j ∷ adding f (j + 1) acts) (adding f (j + 1) acts) b)))
+      ap twice (cond-true _ _ _ b) ∙ twice-smaller (plus (finite 1) (cost g (a .pre))) (cheapest cost g f acts) ∙ ap₂ min (twice-one (cost g (a .pre)) ∙ ap fact-from (sym first)) rest ∙
+      sym (fact-min (doubled j) (least doubled (adding f (j + 1) acts))) ∙ ap (λ l. fact-from (least doubled l)) (sym (cond-true (names (a .add) f) (j ∷ adding f (j + 1) acts) (adding f (j + 1) acts) b)))
       (λ b. ap twice (cond-false _ _ _ b) ∙ rest ∙ ap (λ l. fact-from (least doubled l)) (sym (cond-false (names (a .add) f) (j ∷ adding f (j + 1) acts) (adding f (j + 1) acts) b)))
       (cases-bool (names (a .add) f))
 
@@ -123,9 +123,9 @@ module _ (rule : Rule) (cost : Set-cost) (doubles : Doubles rule cost) (p : Prob
       ⊎-elim
       (λ on. at-fact q l ∙ ap twice (e q l ∙ cond-true _ _ _ on) ∙ ap (side rule doubled) (sym (node-standing p s q l on)))
       (λ off.
-          at-fact q l ∙ ap twice (e q l ∙ cond-false _ _ _ off) ∙
-          over q (p .facts) (p .actions) (λ i m. at-action (p .facts + i) (omega arith) (omega arith) ∙ ap (λ k. of-pre (action p k .pre)) (let k : (p .facts + i) - p .facts ≡ i = omega arith in k)) ∙
-          ap (side rule doubled) (sym (node-added p s q l off)))
+      at-fact q l ∙ ap twice (e q l ∙ cond-false _ _ _ off) ∙
+      over q (p .facts) (p .actions) (λ i m. at-action (p .facts + i) (omega arith) (omega arith) ∙ ap (λ k. of-pre (action p k .pre)) (let k : (p .facts + i) - p .facts ≡ i = omega arith in k)) ∙
+      ap (side rule doubled) (sym (node-added p s q l off)))
       (cases-bool (s q))
 
   solved-action : (q : ℕ) → p .facts ≤ q → q < items p → doubled q ≡ equations rule p s doubled q

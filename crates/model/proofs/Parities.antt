@@ -38,9 +38,9 @@ node-shaped p s q w =
     cond-both (ltb q (p .facts)) _ _ (Shaped (p .facts) q)
     (λ e. let l = ltb-true q (p .facts) e in cond-both (s q) _ _ (Shaped (p .facts) q) (λ _. l) (λ _. (l, adding-far (p .facts) q (p .facts) (p .actions) (omega arith))))
     (λ e. let l = ltb-false q (p .facts) e in
-        cond-both (ltb q (items p)) _ _ (Shaped (p .facts) q)
-        (λ i. let m = ltb-true q (items p) i in (l, pre-known p w (q - p .facts) (omega arith)))
-        (λ _. l))
+    cond-both (ltb q (items p)) _ _ (Shaped (p .facts) q)
+    (λ i. let m = ltb-true q (items p) i in (l, pre-known p w (q - p .facts) (omega arith)))
+    (λ _. l))
 
 module _ (rule : Rule) (laws : Laws rule) (n : ℕ) (x : Table) where
   least-odd : (k : ℕ) → ((a : ℕ) → n ≤ a → x a < k → Odd (x a)) → (bs : List ℕ) → Every (λ a. n ≤ a) bs → least x bs < k → Odd (least x bs)
@@ -61,18 +61,20 @@ module _ (rule : Rule) (laws : Laws rule) (n : ℕ) (x : Table) where
   told : (q : ℕ) (m : Node) → Shaped n q m → x q ≡ side rule x m → ((r : ℕ) → x r < x q → Told r) → Told q
   unfolding Told
   told q standing f e h = ((λ _. inl (ap (λ v. v % 2) e)), λ l. absurd (omega arith))
-  told q (added-by bs) f e h =
-      ((λ _. ⊎-elim
+  told q (added-by bs) f e h = (
+    (λ _. ⊎-elim
         (λ l. let o = least-odd (least x bs + 1) (λ a g m. h a (omega arith) .1 g) bs (f .1) (omega arith) in inl (omega arith))
         (λ l. inr (omega arith))
         (cases-lt (least x bs + 1) top)),
-        λ l. absurd (omega (arith, f .0)))
-  told q (needing ps) f e h =
-      ((λ l. absurd (omega (arith, f .0))),
-        λ _. ⊎-elim
+    λ l. absurd (omega (arith, f .0)),
+  )
+  told q (needing ps) f e h = (
+    (λ l. absurd (omega (arith, f .0))),
+    λ _. ⊎-elim
         (λ l. let o = laws .even (map x ps) (all-even (rule (map x ps)) (omega arith) (λ p g m. h p (omega arith) .0 g) ps (f .1) (laws .covers (map x ps))) in inl (omega arith))
         (λ l. inr (omega arith))
-        (cases-lt (rule (map x ps) + 1) top))
+        (cases-lt (rule (map x ps) + 1) top),
+  )
   told q absent f e h = ((λ l. absurd (omega arith)), λ _. inr e)
 
 module _ (rule : Rule) (laws : Laws rule) (p : Problem) (w : Lawful p) (s : State) (x : Table) (e : Solves (equations rule p s) x) where

@@ -33,12 +33,12 @@ module _ (x : Table) (m : ℕ) where
   sorted l (suc n) =
       ⊎-elim
       (λ all. ⊎-elim
-          (λ over. ⊎-elim
-              (λ on. inr (n, omega arith, on, over))
-              (λ off. inl (λ f h on. ⊎-elim (λ i. absurd (true≢false (sym on ∙ ap (names l) i ∙ off))) (λ o. all f (omega arith) on) (cases-eq f n)))
-              (cases-bool (names l n)))
-          (λ under. inl (λ f h on. ⊎-elim (λ i. omega (arith, ap x i)) (λ o. all f (omega arith) on) (cases-eq f n)))
-          (cases-lt m (x n)))
+      (λ over. ⊎-elim
+      (λ on. inr (n, omega arith, on, over))
+      (λ off. inl (λ f h on. ⊎-elim (λ i. absurd (true≢false (sym on ∙ ap (names l) i ∙ off))) (λ o. all f (omega arith) on) (cases-eq f n)))
+      (cases-bool (names l n)))
+      (λ under. inl (λ f h on. ⊎-elim (λ i. omega (arith, ap x i)) (λ o. all f (omega arith) on) (cases-eq f n)))
+      (cases-lt m (x n)))
       (λ (f, h, on, over). inr (f, omega arith, on, over))
       (sorted l n)
 
@@ -104,8 +104,8 @@ module _ (p : Problem) (w : Lawful p) (s₀ : State) (x : Table) (e : Solves (eq
       ⊎-elim
       (λ up. omega (arith, stands-zero f h up))
       (λ off.
-          let is = e f ∙ ap (side max-rule x) (node-added p s₀ f h off) in
-          omega (arith, is, action-is a l, least-le x f (p .facts) (p .actions) a l on))
+      let is = e f ∙ ap (side max-rule x) (node-added p s₀ f h off) in
+      omega (arith, is, action-is a l, least-le x f (p .facts) (p .actions) a l on))
       (cases-bool (s₀ f))
 
   -- every standing fact has at most m
@@ -130,13 +130,13 @@ module _ (p : Problem) (w : Lawful p) (s₀ : State) (x : Table) (e : Solves (eq
       let pre = listed m s u (action p a .pre) (pre-known p w a (may .0)) (may .1) in
       ⊎-elim
       (λ low.
-          let r = reach acts (step p a s) m (suc k) (under-step m a s u low) (omega arith) few path goal in
-          (omega (arith, r .0), r .1))
+      let r = reach acts (step p a s) m (suc k) (under-step m a s u low) (omega arith) few path goal in
+      (omega (arith, r .0), r .1))
       (λ (f, l, on, over).
-          let under : (g : ℕ) → g < p .facts → names (action p a .add) g ≡ true → x g ≤ m + 2 = λ g h b. added m a g (may .0) h b pre in
-          let grows = hits-grow x m (p .facts) f l over (under f l on) in
-          let r = reach acts (step p a s) (m + 2) (suc k) (under-step (m + 2) a s (λ g h b. omega (arith, u g h b)) under) (omega arith) (omega arith) path goal in
-          (omega (arith, r .0), r .1))
+      let under : (g : ℕ) → g < p .facts → names (action p a .add) g ≡ true → x g ≤ m + 2 = λ g h b. added m a g (may .0) h b pre in
+      let grows = hits-grow x m (p .facts) f l over (under f l on) in
+      let r = reach acts (step p a s) (m + 2) (suc k) (under-step (m + 2) a s (λ g h b. omega (arith, u g h b)) under) (omega arith) (omega arith) path goal in
+      (omega (arith, r .0), r .1))
       (sorted x m (action p a .add) (p .facts))
 
   admits : (acts : List ℕ) → Plan p s₀ acts → At-most (goal-figure max-rule p x) (length acts)

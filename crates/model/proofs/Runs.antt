@@ -32,17 +32,17 @@ least-key F x zero = inl (λ r l. absurd (omega arith))
 least-key F x (suc m) =
     ⊎-elim
     (λ e. ⊎-elim
-        (λ all. inl (λ r l. ⊎-elim (λ i. rw i e) (λ o. all r (omega arith)) (cases-eq r m)))
-        (λ (q, l, off, low). inr (q, omega arith, off, λ r i. ⊎-elim (λ j. inl (rw j e)) (λ o. low r (omega arith)) (cases-eq r m)))
-        (least-key F x m))
+    (λ all. inl (λ r l. ⊎-elim (λ i. rw i e) (λ o. all r (omega arith)) (cases-eq r m)))
+    (λ (q, l, off, low). inr (q, omega arith, off, λ r i. ⊎-elim (λ j. inl (rw j e)) (λ o. low r (omega arith)) (cases-eq r m)))
+    (least-key F x m))
     (λ off. ⊎-elim
-        (λ all. inr (m, omega arith, off, λ r l. ⊎-elim (λ i. inr (omega (arith, ap x i, ap (F x) i))) (λ o. inl (all r (omega arith))) (cases-eq r m)))
-        (λ (q, l, low-off, low).
-            ⊎-elim
-            (λ less. inr (m, omega arith, off, λ r i. ⊎-elim (λ j. inr (omega (arith, ap x j, ap (F x) j))) (λ o. ⊎-elim inl (λ k. inr (omega arith)) (low r (omega arith))) (cases-eq r m)))
-            (λ more-key. inr (q, omega arith, low-off, λ r i. ⊎-elim (λ j. inr (omega (arith, ap x j, ap (F x) j))) (λ o. low r (omega arith)) (cases-eq r m)))
-            (cases-lt (key F x m) (key F x q)))
-        (least-key F x m))
+    (λ all. inr (m, omega arith, off, λ r l. ⊎-elim (λ i. inr (omega (arith, ap x i, ap (F x) i))) (λ o. inl (all r (omega arith))) (cases-eq r m)))
+    (λ (q, l, low-off, low).
+    ⊎-elim
+    (λ less. inr (m, omega arith, off, λ r i. ⊎-elim (λ j. inr (omega (arith, ap x j, ap (F x) j))) (λ o. ⊎-elim inl (λ k. inr (omega arith)) (low r (omega arith))) (cases-eq r m)))
+    (λ more-key. inr (q, omega arith, low-off, λ r i. ⊎-elim (λ j. inr (omega (arith, ap x j, ap (F x) j))) (λ o. low r (omega arith)) (cases-eq r m)))
+    (cases-lt (key F x m) (key F x q)))
+    (least-key F x m))
     (cases-eq (x m) (F x m))
 
 module _ (n : ℕ) (F : Table → Table) (s : System n F) where
@@ -60,13 +60,16 @@ module _ (n : ℕ) (F : Table → Table) (s : System n F) where
       let past : (i : ℕ) → n ≤ i → Consistent F (table h) i = λ i l. table-past h i (omega arith) ∙ sym (s .beyond (table h) i l) in
       ⊎-elim
       (λ all. absurd (off (⊎-elim (all r) (past r) (cases-lt r n))))
-      (λ (q, l, bad, low).
-          (q, figure-of (next F (table h) q), record {
-            item = omega arith;
-            inconsistent = bad;
-            least = λ i. ⊎-elim (low i) (λ m. inl (past i m)) (cases-lt i n);
-            figure = let c = rank-figure (next F (table h) q) in let b = next-figure (table h) q in omega arith;
-          }))
+      (λ (q, l, bad, low). (
+        q,
+        figure-of (next F (table h) q),
+        record {
+          item = omega arith;
+          inconsistent = bad;
+          least = λ i. ⊎-elim (low i) (λ m. inl (past i m)) (cases-lt i n);
+          figure = let c = rank-figure (next F (table h) q) in let b = next-figure (table h) q in omega arith;
+        },
+      ))
       (least-key F (table h) n)
 
   pub settles : (h₀ h : List Figure) (rows : List Row) → length h₀ ≡ n → Settling F h₀ h rows → Settles n F h₀ h rows
@@ -86,8 +89,8 @@ module _ (n : ℕ) (F : Table → Table) (s : System n F) where
       ⊎-elim
       (λ all. (h, rows, run, now .ended all))
       (λ (r, _, off, _).
-          let (q, f, t) = now .further r off in
-          finish h₀ e u (set h q f) (rows ++ (row q (getD h q None) f ∷ [])) (more q f run t) (omega (arith, length-append rows (row q (getD h q None) f ∷ []))))
+      let (q, f, t) = now .further r off in
+      finish h₀ e u (set h q f) (rows ++ (row q (getD h q None) f ∷ [])) (more q f run t) (omega (arith, length-append rows (row q (getD h q None) f ∷ []))))
       (least-key F (table h) n)
 
   ends : (h₀ : List Figure) → length h₀ ≡ n → (g : List Figure) × (all : List Row) × Settling F h₀ g all × Solves F (table g)

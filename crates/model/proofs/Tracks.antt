@@ -85,10 +85,10 @@ step-way F h q f t =
     ⊎-elim
     (λ l. let e = t .figure ∙ cond-true (ltb (F (table h) q) (table h q)) (F (table h) q) top (lt-ltb _ _ l) in inl (omega arith, omega arith, omega arith))
     (λ l.
-        let e = t .figure ∙ cond-false (ltb (F (table h) q) (table h q)) (F (table h) q) top (le-ltb _ _ l) in
-        let o = t .inconsistent in
-        let m : table h q < F (table h) q = ⊎-elim (λ m. m) (λ m. absurd (o (omega arith))) (cases-lt (table h q) (F (table h) q)) in
-        inr (omega arith, omega arith, same-rank f None e))
+    let e = t .figure ∙ cond-false (ltb (F (table h) q) (table h q)) (F (table h) q) top (le-ltb _ _ l) in
+    let o = t .inconsistent in
+    let m : table h q < F (table h) q = ⊎-elim (λ m. m) (λ m. absurd (o (omega arith))) (cases-lt (table h q) (F (table h) q)) in
+    inr (omega arith, omega arith, same-rank f None e))
     (cases-lt (F (table h) q) (table h q))
 
 pub moved-by : (F : Table → Table) (h : List Figure) (q l : ℕ) (f : Figure) → q < length h → Keyed F l (table h) → Way F h q l f → Move F (table h) q l (table (set h q f))

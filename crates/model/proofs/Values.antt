@@ -108,12 +108,12 @@ module _ (cost : Set-cost) (reads : Reads cost) (n : ℕ) where
       let P : Value → Type 0 = λ v. Most v m in
       ⊎-elim
       (λ e.
-          let t′ : P (smaller (plus (finite 1) (cost g (a .pre))) (cheapest cost g f acts)) = subst P (cond-true _ _ _ e) t in
-          subst P (sym (cond-true _ _ _ e))
-          (⊎-elim
-            (λ one. smaller-left (plus (finite 1) (cost h (a .pre))) (cheapest cost h f acts) m (one-follows g h m ih (a .pre) (w .0) one))
-            (λ rest. smaller-right (plus (finite 1) (cost h (a .pre))) (cheapest cost h f acts) m (cheapest-follows g h m ih f acts (w .1) rest))
-            (smaller-cases (plus (finite 1) (cost g (a .pre))) (cheapest cost g f acts) m t′)))
+      let t′ : P (smaller (plus (finite 1) (cost g (a .pre))) (cheapest cost g f acts)) = subst P (cond-true _ _ _ e) t in
+      subst P (sym (cond-true _ _ _ e))
+      (⊎-elim
+      (λ one. smaller-left (plus (finite 1) (cost h (a .pre))) (cheapest cost h f acts) m (one-follows g h m ih (a .pre) (w .0) one))
+      (λ rest. smaller-right (plus (finite 1) (cost h (a .pre))) (cheapest cost h f acts) m (cheapest-follows g h m ih f acts (w .1) rest))
+      (smaller-cases (plus (finite 1) (cost g (a .pre))) (cheapest cost g f acts) m t′)))
       (λ e. subst P (sym (cond-false _ _ _ e)) (cheapest-follows g h m ih f acts (w .1) (subst P (cond-false _ _ _ e) t)))
       (cases-bool (names (a .add) f))
 
@@ -179,15 +179,18 @@ fall-all (suc n) g h e =
     ⊎-elim
     (λ less. ⊎-elim (λ l. inl (omega arith)) (λ same. inl (omega (arith, same .0))) top′)
     (λ same. ⊎-elim
-        (λ l. inl (omega (arith, same .0)))
-        (λ here. inr (omega (arith, same .0, here .0), ⊎-elim
-            (λ l. ⊎-elim (λ m. inl (omega arith)) (λ m. inl (omega (arith, m .0))) (here .1))
-            (λ all. ⊎-elim
-                (λ m. inl (omega (arith, all .0)))
-                (λ m. inr (omega (arith, all .0, m .0), λ f l. ⊎-elim (λ i. rw i (m .1)) (λ o. all .1 f (omega arith)) (cases-eq f n)))
-                (here .1))
-            (same .1)))
-        top′)
+    (λ l. inl (omega (arith, same .0)))
+    (λ here. inr (
+      omega (arith, same .0, here .0),
+      ⊎-elim
+          (λ l. ⊎-elim (λ m. inl (omega arith)) (λ m. inl (omega (arith, m .0))) (here .1))
+          (λ all. ⊎-elim
+          (λ m. inl (omega (arith, all .0)))
+          (λ m. inr (omega (arith, all .0, m .0), λ f l. ⊎-elim (λ i. rw i (m .1)) (λ o. all .1 f (omega arith)) (cases-eq f n)))
+          (here .1))
+          (same .1),
+    ))
+    top′)
     ih
 
 module _ (cost : Set-cost) (reads : Reads cost) (p : Problem) (w : Lawful p) (s : State) where
@@ -216,9 +219,9 @@ module _ (cost : Set-cost) (reads : Reads cost) (p : Problem) (w : Lawful p) (s 
       ⊎-elim
       (λ l. outer (round cost reads p w s g) (omega arith) (again g e))
       (λ (same, more). ⊎-elim
-          (λ l. inner a outer b (round cost reads p w s g) (omega arith) (omega arith) (again g e))
-          (λ (_, all). (g, λ f l. sym (all f l)))
-          more)
+      (λ l. inner a outer b (round cost reads p w s g) (omega arith) (omega arith) (again g e))
+      (λ (_, all). (g, λ f l. sym (all f l)))
+      more)
       (fall-all (p .facts) g (round cost reads p w s g) e)
 
   outer : (a : ℕ) (g : ℕ → Value) → fars g < a → Go g → Found
