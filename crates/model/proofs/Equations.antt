@@ -1,21 +1,21 @@
 -- The equations of a problem are a causal system, and both rules are lawful. Assumes nothing.
 use mathlib.Core.Path.{_≡_, refl, sym, ap, ap₂, subst, _∙_}
-use mathlib.Core.Bool.{Bool, true, false, cond}
+use mathlib.Core.Bool.{true, false, cond}
 use mathlib.Core.List.{List, [], _∷_, map}
 use mathlib.Core.Logic.{_≢_, _⊎_, inl, inr, ⊎-elim}
-use Prim.Native.Nat.{ℕ, zero, suc, _+_, _-_, _%_, _≤_, _<_, min, max}
+use Prim.Native.Nat.{ℕ, suc, _+_, _-_, _≤_, _<_, min, max}
 use native.Mathlib.Omega.{arith}
 use lib.Dec.{ltb, eqb}
-use lib.ListN.{length}
+use lib.ListN.{getD}
 use Rattle.std.specs.shelf.Lists.{All as Every, Each}
 use Rattle.std.proofs.shelf.Elements.{all-weaker}
-use Rattle.std.proofs.shelf.Tests.{cases-lt, cases-eq, le-ltb, lt-ltb, cond-true, cond-false}
+use Rattle.std.proofs.shelf.Tests.{cases-lt, le-ltb, lt-ltb, cond-true, cond-false, cond-both, or-parts, and-cases, eqb-false, leb-false, true≢false}
 use Rattle.figure.specs.Ranks.{top, cut}
-use Rattle.model.specs.Strips.{Problem, State, items, action}
-use Rattle.model.specs.Figures.{Rule, Laws, Even, additive-rule, max-rule, Table, least, adders, Node, node, side, equations, Solves, One, Compares, One-table, Both-lawful}
+use Rattle.model.specs.Strips.{Problem, Action, State, items, names, action, no-action}
+use Rattle.model.specs.Figures.{Rule, Laws, Even, additive-rule, max-rule, Table, least, adding, adders, Node, node, side, equations, Compares, One-table, Both-lawful}
 use Rattle.model.specs.Figures.Node.{standing, added-by, needing, absent}
 use Rattle.model.specs.Settling.{reads, Local, Moved}
-use Rattle.model.proofs.Causal.{Causal, System, one, compare}
+use Rattle.model.proofs.Causal.{System, one, compare}
 
 -- ---- what an item is
 pub node-standing : (p : Problem) (s : State) (q : ℕ) → q < p .facts → s q ≡ true → node p s q ≡ standing
@@ -135,6 +135,13 @@ pub both-lawful : Both-lawful
 both-lawful = (additive-laws, max-laws)
 
 -- ---- an equation depends on what it reads alone
+-- the items that an equation reads
+abbrev pub needs-of : Node → List ℕ
+needs-of standing = []
+needs-of (added-by acts) = acts
+needs-of (needing pre) = pre
+needs-of absent = []
+
 least-same : (x y : Table) (bs : List ℕ) → Every (λ q. y q ≡ x q) bs → least y bs ≡ least x bs
 least-same x y [] h = refl
 least-same x y (b ∷ bs) h = ap₂ min (h .0) (least-same x y bs (h .1))
@@ -143,16 +150,56 @@ pub map-same : (x y : Table) (ps : List ℕ) → Every (λ q. y q ≡ x q) ps �
 map-same x y [] h = refl
 map-same x y (p ∷ ps) h = ap₂ _∷_ (h .0) (map-same x y ps (h .1))
 
-pub side-same : (rule : Rule) (x y : Table) (n : Node) → Every (λ q. y q ≡ x q) (reads n) → side rule y n ≡ side rule x n
+pub side-same : (rule : Rule) (x y : Table) (n : Node) → Every (λ q. y q ≡ x q) (needs-of n) → side rule y n ≡ side rule x n
 side-same rule x y standing h = refl
 side-same rule x y (added-by acts) h = ap (λ v. cut (v + 1)) (least-same x y acts h)
 side-same rule x y (needing pre) h = ap (λ vs. cut (rule vs + 1)) (map-same x y pre h)
 side-same rule x y absent h = refl
 
+-- a list that does not name q has no member q
+pub unnamed : (q : ℕ) (l : List ℕ) → names l q ≡ false → Every (λ a. a ≢ q) l
+unnamed q [] e = tt
+unnamed q (a ∷ l) e = let (here, rest) = or-parts (eqb a q) (names l q) e in (eqb-false a q here, unnamed q l rest)
+
+-- nor have the adders of f from item j on, where q is before them or the action at q does not add f
+unadding : (f q j : ℕ) (acts : List Action) → (q < j) ⊎ (names (getD acts (q - j) no-action .add) f ≡ false) → Every (λ a. a ≢ q) (adding f j acts)
+unadding f q j [] h = tt
+unadding f q j (a ∷ acts) h =
+    let rest = unadding f q (j + 1) acts
+    (⊎-elim
+    (λ l. inl l)
+    (λ l. ⊎-elim (λ m. inl (omega arith)) (λ e. let k : q - j ≡ suc (q - (j + 1)) = omega arith in inr (subst (λ i. names (getD (a ∷ acts) i no-action .add) f ≡ false) k e)) h)
+    (cases-lt q (j + 1))) in
+    cond-both (names (a .add) f) _ _ (Every (λ b. b ≢ q))
+    (λ on. (
+      (λ i. ⊎-elim
+          (λ l. omega arith)
+          (λ e. let k : q - j ≡ 0 = omega arith in true≢false (sym on ∙ subst (λ i. names (getD (a ∷ acts) i no-action .add) f ≡ false) k e))
+          h),
+      rest,
+    ))
+    (λ _. rest)
+
+unread : (p : Problem) (s : State) (r q : ℕ) → reads p r q ≡ false → Every (λ a. a ≢ q) (needs-of (node p s r))
+unfolding node
+unread p s r q h =
+    ⊎-elim
+    (λ l.
+    let e = sym (cond-true _ _ _ (lt-ltb r (p .facts) l)) ∙ h in
+    let far : (q < p .facts) ⊎ (names (getD (p .actions) (q - p .facts) no-action .add) r ≡ false) =
+    ⊎-elim (λ b. inl (leb-false _ _ b)) inr (and-cases _ _ e) in
+    subst (λ n. Every (λ a. a ≢ q) (needs-of n)) (sym (cond-true _ _ _ (lt-ltb r (p .facts) l)))
+    (cond-both (s r) _ _ (λ n. Every (λ a. a ≢ q) (needs-of n)) (λ _. tt) (λ _. unadding r q (p .facts) (p .actions) far)))
+    (λ l.
+    let e = sym (cond-false _ _ _ (le-ltb r (p .facts) l)) ∙ h in
+    subst (λ n. Every (λ a. a ≢ q) (needs-of n)) (sym (cond-false _ _ _ (le-ltb r (p .facts) l)))
+    (cond-both (ltb r (items p)) _ _ (λ n. Every (λ a. a ≢ q) (needs-of n)) (λ _. unnamed q (action p (r - p .facts) .pre) e) (λ _. tt)))
+    (cases-lt r (p .facts))
+
 pub local : Local
 unfolding equations
 local rule p s x y q rest r h =
-    side-same rule x y (node p s r) (all-weaker (λ a. a ≢ q) (λ a. y a ≡ x a) rest (reads (node p s r)) h)
+    side-same rule x y (node p s r) (all-weaker (λ a. a ≢ q) (λ a. y a ≡ x a) rest (needs-of (node p s r)) (unread p s r q h))
 
 pub moved : Moved
 unfolding equations node

@@ -3,9 +3,11 @@ pub mod Equations
 pub mod Parities
 pub mod Ranked
 pub mod Steps
+pub mod Rows
 pub mod Tracks
 pub mod Runs
 pub mod Values
+pub mod OneCost
 pub mod Doubled
 pub mod Plans
 pub mod Counts

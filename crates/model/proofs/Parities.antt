@@ -1,18 +1,17 @@
 -- Facts are even, and actions odd. Assumes nothing.
-use mathlib.Core.Path.{_≡_, refl, sym, ap, subst, _∙_}
-use mathlib.Core.Bool.{Bool, true, false, cond}
+use mathlib.Core.Path.{_≡_, refl, ap, subst}
 use mathlib.Core.List.{List, [], _∷_, map}
-use mathlib.Core.Logic.{_≢_, _⊎_, inl, inr, ⊎-elim}
-use Prim.Native.Nat.{ℕ, zero, suc, _+_, _-_, _*_, _/_, _%_, _≤_, _<_, min, max}
+use mathlib.Core.Logic.{inl, inr, ⊎-elim}
+use Prim.Native.Nat.{ℕ, zero, suc, _+_, _-_, _*_, _/_, _%_, _≤_, _<_}
 use native.Mathlib.Omega.{arith}
-use lib.Dec.{ltb, eqb}
+use lib.Dec.{ltb}
 use lib.ListN.{length}
-use Rattle.std.specs.shelf.Lists.{All as Every, Each}
-use Rattle.std.proofs.shelf.Elements.{all-weaker, all-getD}
+use Rattle.std.specs.shelf.Lists.{All as Every}
+use Rattle.std.proofs.shelf.Elements.{all-getD}
 use Rattle.std.proofs.shelf.Tests.{cases-lt, cond-both, cond-true, ltb-true, ltb-false, lt-ltb}
 use Rattle.figure.specs.Ranks.{top, cut, halved}
 use Rattle.model.specs.Strips.{Problem, Action, State, Lawful, items, names, action, no-action}
-use Rattle.model.specs.Figures.{Rule, Laws, Even, Odd, Table, least, adding, adders, Node, node, side, equations, Solves, goal-figure, Halves, Parity}
+use Rattle.model.specs.Figures.{Rule, Laws, Even, Odd, Table, least, adding, Node, node, side, equations, Solves, Halves, Parity}
 use Rattle.model.specs.Figures.Node.{standing, added-by, needing, absent}
 
 -- the preconditions of an action are facts

@@ -2,20 +2,19 @@
 --
 -- Along a plan a bound m on the figures of the standing facts rises by at most 2 a step, and each rise
 -- brings at least one more fact to at most m. So m never passes twice the facts, and the ceiling is never met.
-use mathlib.Core.Path.{_≡_, refl, sym, ap, subst, _∙_}
-use mathlib.Core.Bool.{Bool, true, false, cond, _&&_, _||_, not}
+use mathlib.Core.Path.{_≡_, sym, ap, _∙_}
+use mathlib.Core.Bool.{true, cond}
 use mathlib.Core.List.{List, [], _∷_, map}
-use mathlib.Core.Logic.{_≢_, _⊎_, inl, inr, ⊎-elim}
-use Prim.Native.Nat.{ℕ, zero, suc, _+_, _-_, _*_, _/_, _≤_, _<_, min, max}
+use mathlib.Core.Logic.{_⊎_, inl, inr, ⊎-elim}
+use Prim.Native.Nat.{ℕ, zero, suc, _+_, _-_, _*_, _/_, _≤_, _<_}
 use native.Mathlib.Omega.{arith}
 use lib.Dec.{ltb, leb}
 use lib.ListN.{length, getD}
 use Rattle.std.specs.shelf.Lists.{All as Every}
-use Rattle.std.proofs.shelf.Elements.{all-weaker}
 use Rattle.std.proofs.shelf.Tests.{cases-lt, cases-eq, cases-bool, cond-true, cond-false, lt-ltb, le-leb, lt-leb, and-parts, or-cases, true≢false}
-use Rattle.figure.specs.Ranks.{top, cut, halved}
-use Rattle.model.specs.Strips.{Problem, Action, State, Stands, Lawful, items, names, action, no-action, May, step, Goal, Path, after, Plan}
-use Rattle.model.specs.Figures.{max-rule, Table, least, adding, adders, node, side, equations, Solves, goal-figure}
+use Rattle.figure.specs.Ranks.{top, cut}
+use Rattle.model.specs.Strips.{Problem, Action, State, Stands, Lawful, names, action, no-action, May, step, Goal, Path, after, Plan}
+use Rattle.model.specs.Figures.{max-rule, Table, least, adding, side, equations, Solves, goal-figure}
 use Rattle.model.specs.Heuristics.{At-most, Admissible}
 use Rattle.model.proofs.Causal.{total, falls}
 use Rattle.model.proofs.Equations.{node-standing, node-added, node-action}

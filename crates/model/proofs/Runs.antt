@@ -1,24 +1,23 @@
 -- Settlings: each is tracked, ends soon, and can go on until all is consistent. Assumes nothing.
-use mathlib.Core.Path.{_≡_, refl, sym, ap, _∙_}
-use mathlib.Core.Bool.{cond}
+use mathlib.Core.Path.{_≡_, sym, ap, _∙_}
 use mathlib.Core.List.{List, [], _∷_, _++_}
-use mathlib.Core.Logic.{_≢_, _⊎_, inl, inr, ⊎-elim}
-use Prim.Native.Nat.{ℕ, zero, suc, _+_, _*_, _≤_, _<_, min}
+use mathlib.Core.Logic.{_⊎_, inl, inr, ⊎-elim}
+use Prim.Native.Nat.{ℕ, zero, suc, _+_, _*_, _≤_, _<_}
 use native.Mathlib.Omega.{arith}
 use lib.Dec.{ltb}
 use lib.ListN.{length, getD, set, length-append}
-use Rattle.std.proofs.shelf.Tests.{cases-lt, cases-eq, cond-both, ltb-true}
+use Rattle.std.proofs.shelf.Tests.{cases-lt, cases-eq, cond-both}
 use Rattle.figure.specs.declared.figure.Figure.{Figure}
 use Rattle.figure.specs.declared.figure.Figure.the-variants.{None}
-use Rattle.figure.specs.Ranks.{top, rank, cut}
+use Rattle.figure.specs.Ranks.{top}
 use Rattle.model.specs.Strips.{items}
 use Rattle.model.specs.Figures.{Table, table, figure-of, equations, Solves}
 use Rattle.model.specs.Docket.{Row, row}
-use Rattle.model.specs.Settling.{Consistent, key, Keys-from, next, Step, Settling, Settles, Steps-keep, Settlings, Settling-ends}
+use Rattle.model.specs.Settling.{Consistent, key, next, Step, Settling, Settles, Steps-keep, Settlings, Settling-ends}
 use Rattle.model.specs.Settling.Settling.{begun, more}
 use Rattle.model.proofs.Causal.{System}
 use Rattle.model.proofs.Equations.{system}
-use Rattle.model.proofs.Ranked.{rank-figure, table-low, table-past}
+use Rattle.model.proofs.Ranked.{rank-figure, table-past}
 use Rattle.model.proofs.Steps.{keeps}
 use Rattle.model.proofs.Tracks.{Track, track-start, track-more, track-docket, within-solves, step-way, step-least, step-moved}
 

@@ -7,14 +7,14 @@
 use mathlib.Core.Path.{_≡_, refl, sym, ap, _∙_}
 use mathlib.Core.Bool.{cond}
 use mathlib.Core.Logic.{_≢_, _⊎_, inl, inr, ⊎-elim}
-use Prim.Native.Nat.{ℕ, zero, suc, _+_, _*_, _≤_, _<_, min}
+use Prim.Native.Nat.{ℕ, zero, suc, _*_, _≤_, _<_}
 use native.Mathlib.Omega.{arith}
 use lib.Dec.{eqb}
 use Rattle.std.proofs.shelf.Tests.{cases-lt, cases-eq, cond-true, cond-false, eq-eqb, ne-eqb}
 use Rattle.figure.specs.Ranks.{top}
 use Rattle.model.specs.Figures.{Table}
 use Rattle.model.specs.Settling.{Keeps}
-use Rattle.model.proofs.Causal.{Causal, System, alike, total}
+use Rattle.model.proofs.Causal.{System, alike, total}
 
 abbrev pub Keyed : (Table → Table) → ℕ → Table → Type 0
 Keyed F k x = (r : ℕ) → (x r ≡ F x r) ⊎ ((k ≤ x r) × (k ≤ F x r))

@@ -4,50 +4,27 @@
 --   Track     what holds after steps of keys up to k
 --   moved-by  a step as a move of ranks
 use mathlib.Core.Path.{_≡_, refl, sym, ap, ap₂, subst, _∙_}
-use mathlib.Core.Bool.{Bool, true, false, cond, _&&_}
 use mathlib.Core.List.{List, [], _∷_, _++_}
 use mathlib.Core.Logic.{_≢_, _⊎_, inl, inr, ⊎-elim}
-use Prim.Native.Nat.{ℕ, zero, suc, _+_, _*_, _≤_, _<_, min}
+use Prim.Native.Nat.{ℕ, _+_, _*_, _≤_, _<_}
 use native.Mathlib.Omega.{arith}
-use lib.Dec.{eqb, ltb}
+use lib.Dec.{ltb}
 use lib.ListN.{length, getD, set, length-set, length-append}
 use Rattle.std.specs.shelf.Lists.{All as Every}
-use Rattle.std.proofs.shelf.Lists.{getD-past, getD-set-same, getD-set-other, append-nil}
+use Rattle.std.proofs.shelf.Lists.{getD-set-same, getD-set-other}
 use Rattle.std.proofs.shelf.Elements.{all-push, all-weaker}
-use Rattle.std.proofs.shelf.Tests.{cases-lt, cases-eq, cases-bool, cond-true, cond-false, eq-eqb, ne-eqb, lt-ltb, le-ltb, and-left, and-right, and-from}
+use Rattle.std.proofs.shelf.Tests.{cases-lt, cases-eq, cond-true, cond-false, eq-eqb, ne-eqb, lt-ltb, le-ltb, and-left, and-right, and-from}
 use Rattle.figure.specs.declared.figure.Figure.{Figure}
 use Rattle.figure.specs.declared.figure.Figure.the-variants.{None}
 use Rattle.figure.specs.Ranks.{top, rank}
-use Rattle.figure.proofs.Same.{same-rank, rank-low}
+use Rattle.figure.proofs.Same.{same-rank}
 use Rattle.model.specs.Figures.{Table, table, Solves}
-use Rattle.model.specs.Docket.{Row, row, Fits-row, Applies, low, Rising, rows-of, changes, Docket}
-use Rattle.model.specs.Settling.{Consistent, key, Keys-from, next, Step, Settling, Settles}
-use Rattle.model.specs.Settling.Settling.{begun, more}
+use Rattle.model.specs.Docket.{Row, row, Applies, low, Rising-rows, rows-of, changes, Docket}
+use Rattle.model.specs.Settling.{Consistent, key, Step}
 use Rattle.model.proofs.Causal.{System, total, total-at, falls-at}
-use Rattle.model.proofs.Ranked.{table-low, table-past, table-same, table-other}
+use Rattle.model.proofs.Ranked.{table-past, table-same, table-other}
+use Rattle.model.proofs.Rows.{applies-push, rising-push, rows-same, rows-other}
 use Rattle.model.proofs.Steps.{Keyed, Move, kept, keyed, rises, left, left-two, left-one, left-none, left-fewer, left-same, total-two}
-
--- ---- one more row
-applies-push : (x : List Figure) (rows : List Row) (y : List Figure) (q : ℕ) (b a : Figure) → Applies x rows y → q < length y → getD y q None ≡ b → b ≢ a → Applies x (rows ++ (row q b a ∷ [])) (set y q a)
-applies-push x [] y q b a e h g n =
-    (record { item = subst (λ l. q < length l) e h; before = subst (λ l. getD l q None ≡ b) e g; other = n }, ap (λ l. set l q a) e)
-applies-push x (w ∷ ws) y q b a e h g n = (e .0, applies-push (set x (w .item) (w .after)) ws y q b a (e .1) h g n)
-
-rising-push : (rows : List Row) (w : Row) → Rising rows → Every (λ v. low v ≤ low w) rows → Rising (rows ++ (w ∷ []))
-rising-push [] w r u = (tt, tt)
-rising-push (v ∷ vs) w r u = (all-push (λ x. low v ≤ low x) vs w (r .0) (u .0), rising-push vs w (r .1) (u .1))
-
-rows-same : (q : ℕ) (rows : List Row) (b a : Figure) → rows-of q (rows ++ (row q b a ∷ [])) ≡ rows-of q rows ++ (row q b a ∷ [])
-rows-same q [] b a = cond-true _ _ _ (eq-eqb q q refl)
-rows-same q (w ∷ ws) b a =
-    ⊎-elim
-    (λ e. cond-true _ _ _ e ∙ ap (λ l. w ∷ l) (rows-same q ws b a) ∙ ap (λ l. l ++ (row q b a ∷ [])) (sym (cond-true (eqb (w .item) q) (w ∷ rows-of q ws) (rows-of q ws) e)))
-    (λ e. cond-false _ _ _ e ∙ rows-same q ws b a ∙ ap (λ l. l ++ (row q b a ∷ [])) (sym (cond-false (eqb (w .item) q) (w ∷ rows-of q ws) (rows-of q ws) e)))
-    (cases-bool (eqb (w .item) q))
-
-rows-other : (r q : ℕ) (rows : List Row) (b a : Figure) → q ≢ r → rows-of r (rows ++ (row q b a ∷ [])) ≡ rows-of r rows
-rows-other r q [] b a n = cond-false _ _ _ (ne-eqb q r n)
-rows-other r q (w ∷ ws) b a n = ap (λ l. cond (eqb (w .item) r) (w ∷ l) l) (rows-other r q ws b a n)
 
 -- ---- where an item stands
 pub data Phase (F : Table → Table) (h₀ h : List Figure) (k r : ℕ) (own : List Row) : Type 0 where
@@ -61,7 +38,7 @@ pub record Track (n : ℕ) (F : Table → Table) (h₀ h : List Figure) (k : ℕ
   pub low-key : Keyed F k (table h)
   pub phases : (r : ℕ) → Phase F h₀ h k r (rows-of r rows)
   pub applies : Applies h₀ rows h
-  pub rising : Rising rows
+  pub rising : Rising-rows rows
   pub under : Every (λ v. low v ≤ k) rows
   pub budget : total n (left (table h₀) (table h)) + length rows ≤ 2 * n
 

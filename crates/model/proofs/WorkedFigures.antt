@@ -1,26 +1,24 @@
 -- The worked examples of figures. Assumes nothing.
 use mathlib.Core.Path.{_≡_, refl, sym, ap, subst, _∙_}
-use mathlib.Core.Bool.{Bool, true, false, cond}
 use mathlib.Core.List.{List, [], _∷_, map}
-use mathlib.Core.Logic.{_≢_, _⊎_, inl, inr, ⊎-elim}
-use Prim.Native.Nat.{ℕ, zero, suc, _+_, _≤_, _<_}
+use mathlib.Core.Logic.{_≢_, ⊎-elim}
+use Prim.Native.Nat.{ℕ, zero, suc, _≤_, _<_}
 use native.Mathlib.Omega.{arith}
-use lib.Dec.{eqb}
-use lib.ListN.{length, getD, set}
+use lib.ListN.{length, getD}
 use Rattle.std.specs.shelf.Lists.{All as Every}
 use Rattle.std.proofs.shelf.Lists.{getD-past}
-use Rattle.std.proofs.shelf.Tests.{cases-lt, cases-eq, cond-false, ne-eqb, true≢false, false≢true}
+use Rattle.std.proofs.shelf.Tests.{cases-lt, cases-eq, cond-false, ne-eqb, false≢true}
 use Rattle.figure.specs.declared.figure.Figure.{Figure}
 use Rattle.figure.specs.declared.figure.Figure.the-variants.{None}
-use Rattle.figure.specs.Ranks.{top, rank, cut, halved}
-use Rattle.model.specs.Strips.{Problem, State, items, these, May, step, Goal, Plan}
+use Rattle.figure.specs.Ranks.{rank, halved}
+use Rattle.model.specs.Strips.{Problem, items, these, May, step, Goal, Plan}
 use Rattle.model.specs.Figures.{Rule, Laws, additive-rule, max-rule, Table, figure-of, table, node, equations, Solves, goal-figure}
-use Rattle.model.specs.Docket.{Row, row, Fits-row, Applies, rows-of, changes, Docket}
+use Rattle.model.specs.Docket.{Row, row, Fits-row, rows-of, changes, Docket}
 use Rattle.model.specs.Examples.{task-a}
-use Rattle.model.specs.FigureExamples.{task-b, task-c, task-d, Told, Both-told, Goal-told, Docket-told, figures-a, figures-c, figures-c-struck, rows-c, figures-d, figures-d-struck, rows-d, Worked-figures}
+use Rattle.model.specs.FigureExamples.{task-b, task-c, task-d, Told, Both-told, Goal-told, figures-a, figures-c, figures-c-struck, rows-c, figures-d, figures-d-struck, rows-d, Worked-figures}
 use Rattle.model.proofs.Causal.{agree}
 use Rattle.model.proofs.Equations.{system, additive-laws, max-laws, map-same}
-use Rattle.model.proofs.Ranked.{rank-figure, table-past}
+use Rattle.model.proofs.Ranked.{table-past}
 use Rattle.model.proofs.Counts.{same-length}
 
 -- ---- what holds of 0, 1, .. below n
@@ -65,7 +63,7 @@ unfolding equations node figure-of
 table-a-max = told-from max-rule max-laws task-a (0 ∷ []) figures-a refl (((((tt, refl), refl), refl), refl), refl)
 
 table-a : Both-told task-a (0 ∷ []) figures-a
-table-a = record { additive = table-a-additive; largest = table-a-max }
+table-a = record { by-additive = table-a-additive; by-max = table-a-max }
 
 -- task B: facts 0, 2, 2 and the action 1
 abbrev figures-b : List Figure
@@ -80,7 +78,7 @@ unfolding equations node figure-of
 table-b-max = told-from max-rule max-laws task-b (0 ∷ []) figures-b refl ((((tt, refl), refl), refl), refl)
 
 table-b : Both-told task-b (0 ∷ []) figures-b
-table-b = record { additive = table-b-additive; largest = table-b-max }
+table-b = record { by-additive = table-b-additive; by-max = table-b-max }
 
 table-c-additive : Told additive-rule task-c (0 ∷ []) figures-c
 unfolding equations node figure-of
@@ -91,7 +89,7 @@ unfolding equations node figure-of
 table-c-max = told-from max-rule max-laws task-c (0 ∷ []) figures-c refl ((((((tt, refl), refl), refl), refl), refl), refl)
 
 table-c : Both-told task-c (0 ∷ []) figures-c
-table-c = record { additive = table-c-additive; largest = table-c-max }
+table-c = record { by-additive = table-c-additive; by-max = table-c-max }
 
 table-c-struck-additive : Told additive-rule task-c ([]) figures-c-struck
 unfolding equations node figure-of
@@ -102,7 +100,7 @@ unfolding equations node figure-of
 table-c-struck-max = told-from max-rule max-laws task-c ([]) figures-c-struck refl ((((((tt, refl), refl), refl), refl), refl), refl)
 
 table-c-struck : Both-told task-c ([]) figures-c-struck
-table-c-struck = record { additive = table-c-struck-additive; largest = table-c-struck-max }
+table-c-struck = record { by-additive = table-c-struck-additive; by-max = table-c-struck-max }
 
 table-d-additive : Told additive-rule task-d (0 ∷ 2 ∷ []) figures-d
 unfolding equations node figure-of
@@ -113,7 +111,7 @@ unfolding equations node figure-of
 table-d-max = told-from max-rule max-laws task-d (0 ∷ 2 ∷ []) figures-d refl (((((((tt, refl), refl), refl), refl), refl), refl), refl)
 
 table-d : Both-told task-d (0 ∷ 2 ∷ []) figures-d
-table-d = record { additive = table-d-additive; largest = table-d-max }
+table-d = record { by-additive = table-d-additive; by-max = table-d-max }
 
 table-d-struck-additive : Told additive-rule task-d (2 ∷ []) figures-d-struck
 unfolding equations node figure-of
@@ -124,7 +122,7 @@ unfolding equations node figure-of
 table-d-struck-max = told-from max-rule max-laws task-d (2 ∷ []) figures-d-struck refl (((((((tt, refl), refl), refl), refl), refl), refl), refl)
 
 table-d-struck : Both-told task-d (2 ∷ []) figures-d-struck
-table-d-struck = record { additive = table-d-struck-additive; largest = table-d-struck-max }
+table-d-struck = record { by-additive = table-d-struck-additive; by-max = table-d-struck-max }
 
 goal-a-additive : Goal-told additive-rule task-a (0 ∷ []) 2
 unfolding figure-of
@@ -200,10 +198,12 @@ worked-figures = record {
   shortest-b = shortest-b;
   table-c = table-c;
   table-c-struck = table-c-struck;
-  docket-c = record { docket = docket-c; as-many = λ others d. same-length figures-c figures-c-struck rows-c others docket-c d };
+  docket-c = docket-c;
+  six-rows-c = λ rows d. same-length figures-c figures-c-struck rows-c rows docket-c d;
   table-d = table-d;
   table-d-struck = table-d-struck;
-  docket-d = record { docket = docket-d; as-many = λ others d. same-length figures-d figures-d-struck rows-d others docket-d d };
+  docket-d = docket-d;
+  four-rows-d = λ rows d. same-length figures-d figures-d-struck rows-d rows docket-d d;
   empty-goal = empty-goal;
   at-ceiling = refl;
   above-ceiling = refl;

@@ -1,12 +1,12 @@
 -- The docket: rows that lead from one list of figures to another. Assumes nothing.
 --
---   Row          an item, its figure before and its different figure after
---   Applies      the rows, applied in turn to some figures, give others
---   changes      the rows that the change of one item's figure has
---   Rising       down the rows the smaller figure never falls
---   Docket       the rows apply, are exactly the changes, and rise
+--   Row           an item, its figure before and its different figure after
+--   Applies       the rows, applied in turn to some figures, give others
+--   changes       the rows that the change of one item's figure has
+--   Rising-rows   down the rows the smaller figure never falls
+--   Docket        the rows apply, are exactly the changes, and rise
 use mathlib.Core.Path.{_≡_}
-use mathlib.Core.Bool.{Bool, true, false, cond, _&&_}
+use mathlib.Core.Bool.{cond, _&&_}
 use mathlib.Core.Logic.{_≢_}
 use mathlib.Core.List.{List, [], _∷_}
 use Prim.Native.Nat.{ℕ, _<_, _≤_, min}
@@ -17,11 +17,13 @@ use Rattle.figure.specs.declared.figure.Figure.{Figure}
 use Rattle.figure.specs.declared.figure.Figure.the-variants.{None}
 use Rattle.figure.specs.Ranks.{top, rank}
 
+-- a change of one item's figure
 pub record Row : Type 0 where
   pub item : ℕ
   pub before : Figure
   pub after : Figure
 
+-- the row of an item and its two figures
 abbrev pub row : ℕ → Figure → Figure → Row
 row item before after = record { item = item; before = before; after = after }
 
@@ -45,9 +47,9 @@ abbrev pub low : Row → ℕ
 low w = min (rank (w .before)) (rank (w .after))
 
 -- down the rows the smaller figure never falls
-abbrev pub Rising : List Row → Type 0
-Rising [] = Unit {0}
-Rising (w ∷ ws) = Every (λ v. low w ≤ low v) ws × Rising ws
+abbrev pub Rising-rows : List Row → Type 0
+Rising-rows [] = Unit {0}
+Rising-rows (w ∷ ws) = Every (λ v. low w ≤ low v) ws × Rising-rows ws
 
 -- the rows of one item, in order
 abbrev pub rows-of : ℕ → List Row → List Row
@@ -60,7 +62,8 @@ changes r before after =
     cond (eqb (rank before) (rank after)) []
     (cond (ltb (rank before) (rank after) && ltb (rank after) top) (row r before None ∷ row r None after ∷ []) (row r before after ∷ []))
 
+-- the rows lead from the first figures to the second: they apply, are exactly the changes, and rise
 pub record Docket (before after : List Figure) (rows : List Row) : Type 0 where
   pub applies : Applies before rows after
   pub exact : (r : ℕ) → rows-of r rows ≡ changes r (getD before r None) (getD after r None)
-  pub rising : Rising rows
+  pub rising : Rising-rows rows

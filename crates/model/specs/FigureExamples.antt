@@ -2,11 +2,11 @@
 use mathlib.Core.Path.{_≡_}
 use mathlib.Core.List.{List, [], _∷_, map}
 use Prim.Native.Nat.{ℕ, _≤_}
-use lib.ListN.{length, getD, replicate}
+use lib.ListN.{length}
 use Rattle.figure.specs.declared.figure.Figure.{Figure}
 use Rattle.figure.specs.declared.figure.Figure.the-variants.{None}
 use Rattle.figure.specs.Ranks.{top}
-use Rattle.model.specs.Strips.{Problem, State, Plan, these}
+use Rattle.model.specs.Strips.{Problem, Plan, these}
 use Rattle.model.specs.Figures.{Rule, Laws, additive-rule, max-rule, Table, figure-of, table, equations, Solves, goal-figure}
 use Rattle.model.specs.Docket.{Row, row, Docket}
 use Rattle.model.specs.Examples.{act, task-a}
@@ -40,22 +40,22 @@ pub record Told (rule : Rule) (p : Problem) (standing : List ℕ) (figures : Lis
 
 -- so it is under both rules
 pub record Both-told (p : Problem) (standing : List ℕ) (figures : List Figure) : Type 0 where
-  pub additive : Told additive-rule p standing figures
-  pub largest : Told max-rule p standing figures
+  pub by-additive : Told additive-rule p standing figures
+  pub by-max : Told max-rule p standing figures
 
 -- under the rule the goal figure, where these facts stand, is v
 abbrev pub Goal-told : Rule → Problem → List ℕ → ℕ → Type 0
 Goal-told rule p standing v = (x : Table) → Solves (equations rule p (these standing)) x → goal-figure rule p x ≡ v
 
--- these rows are a docket, and every docket between these figures has as many
-pub record Docket-told (before after : List Figure) (rows : List Row) : Type 0 where
-  pub docket : Docket before after rows
-  pub as-many : (others : List Row) → Docket before after others → length others ≡ length rows
+-- every docket from the first figures to the second has n rows
+abbrev pub Rows-told : List Figure → List Figure → ℕ → Type 0
+Rows-told before after n = (rows : List Row) → Docket before after rows → length rows ≡ n
 
--- facts, then actions
+-- in task A, facts first, then actions
 abbrev pub figures-a : List Figure
 figures-a = map figure-of (0 ∷ 2 ∷ 4 ∷ 1 ∷ 3 ∷ [])
 
+-- in task C
 abbrev pub figures-c : List Figure
 figures-c = map figure-of (0 ∷ 2 ∷ 4 ∷ 3 ∷ 5 ∷ 1 ∷ [])
 
@@ -63,10 +63,12 @@ figures-c = map figure-of (0 ∷ 2 ∷ 4 ∷ 3 ∷ 5 ∷ 1 ∷ [])
 abbrev pub figures-c-struck : List Figure
 figures-c-struck = None ∷ None ∷ None ∷ None ∷ None ∷ None ∷ []
 
+-- the struck fact, and what rested on it, in the order of the smaller figures
 abbrev pub rows-c : List Row
 rows-c =
     row 0 (figure-of 0) None ∷ row 5 (figure-of 1) None ∷ row 1 (figure-of 2) None ∷ row 3 (figure-of 3) None ∷ row 2 (figure-of 4) None ∷ row 4 (figure-of 5) None ∷ []
 
+-- in task D
 abbrev pub figures-d : List Figure
 figures-d = map figure-of (0 ∷ 2 ∷ 0 ∷ 2 ∷ 1 ∷ 1 ∷ 3 ∷ [])
 
@@ -78,6 +80,7 @@ figures-d-struck = None ∷ figure-of 4 ∷ figure-of 0 ∷ figure-of 2 ∷ None
 abbrev pub rows-d : List Row
 rows-d = row 0 (figure-of 0) None ∷ row 4 (figure-of 1) None ∷ row 1 (figure-of 2) None ∷ row 1 None (figure-of 4) ∷ []
 
+-- what the definitions make of these tasks
 pub record Worked-figures : Type 0 where
   -- task A: facts 0, 2, 4, actions 1, 3, and goal figure 2 by both rules
   pub table-a : Both-told task-a (0 ∷ []) figures-a
@@ -91,11 +94,13 @@ pub record Worked-figures : Type 0 where
   -- task C: facts 0, 2, 4, actions 3, 5, 1; with 0 struck all none, and six rows lead there
   pub table-c : Both-told task-c (0 ∷ []) figures-c
   pub table-c-struck : Both-told task-c [] figures-c-struck
-  pub docket-c : Docket-told figures-c figures-c-struck rows-c
+  pub docket-c : Docket figures-c figures-c-struck rows-c
+  pub six-rows-c : Rows-told figures-c figures-c-struck 6
   -- task D with 0 struck: fact 1 goes 2, none, 4, and there are four rows
   pub table-d : Both-told task-d (0 ∷ 2 ∷ []) figures-d
   pub table-d-struck : Both-told task-d (2 ∷ []) figures-d-struck
-  pub docket-d : Docket-told figures-d figures-d-struck rows-d
+  pub docket-d : Docket figures-d figures-d-struck rows-d
+  pub four-rows-d : Rows-told figures-d figures-d-struck 4
   -- an empty goal has figure 0, whatever the table
   pub empty-goal : (rule : Rule) → Laws rule → (p : Problem) → p .goal ≡ [] → (x : Table) → goal-figure rule p x ≡ 0
   -- the sum at the ceiling, and above it

@@ -4,32 +4,36 @@
 --   sum-of, largest-of    what a set of facts costs, to h_add and to h_max
 --   Costs                 the equations of the facts' costs, with no ceiling
 --   One-cost              they have exactly one solution
---   Agrees                the goal figure is the heuristic's value, cut at the ceiling
+--   Agrees                figures are twice the costs, and the goal figure is the heuristic's value, cut at the ceiling
 --   Admissible            the max rule's goal figure never passes a plan's length
 use mathlib.Core.Path.{_≡_}
 use mathlib.Core.Bool.{cond}
 use mathlib.Core.List.{List, [], _∷_}
-use Prim.Native.Nat.{ℕ, _+_, _<_, _≤_, min, max}
+use Prim.Native.Nat.{ℕ, _+_, _*_, _<_, _≤_, min, max}
 use lib.Dec.{leb}
 use lib.ListN.{length}
-use Rattle.figure.specs.Ranks.{top}
+use Rattle.figure.specs.Ranks.{top, cut}
 use Rattle.model.specs.Strips.{Problem, Action, State, Lawful, Plan, names}
 use Rattle.model.specs.Figures.{Rule, additive-rule, max-rule, Table, equations, Solves, goal-figure}
 
+-- what something costs: a whole number, or infinite if it is out of reach
 pub data Value : Type 0 where
   finite : ℕ → Value
   infinite : Value
 
+-- the sum of two values
 abbrev pub plus : Value → Value → Value
 plus infinite v = infinite
 plus (finite a) infinite = infinite
 plus (finite a) (finite b) = finite (a + b)
 
+-- the larger of two values
 abbrev pub larger : Value → Value → Value
 larger infinite v = infinite
 larger (finite a) infinite = infinite
 larger (finite a) (finite b) = finite (max a b)
 
+-- the smaller of two values
 abbrev pub smaller : Value → Value → Value
 smaller infinite v = v
 smaller (finite a) infinite = finite a
@@ -65,16 +69,26 @@ One-cost cost =
     (p : Problem) → Lawful p → (s : State) →
     (g : ℕ → Value) × Costs cost p s g × ((h : ℕ → Value) → Costs cost p s h → (f : ℕ) → f < p .facts → h f ≡ g f)
 
--- a value as a figure: none above 1,000,000, half of the largest number that is a figure
+-- twice a value as a figure: none above the ceiling
+abbrev pub doubled : Value → ℕ
+doubled infinite = top
+doubled (finite n) = cut (2 * n)
+
+-- a value as a goal figure: none above 1,000,000, half of the ceiling
 abbrev pub cut-value : Value → ℕ
 cut-value infinite = top
 cut-value (finite n) = cond (leb n 1000000) n top
 
--- the goal figure under the rule is what the goal costs, cut at the ceiling
+-- a fact's figure in the table is twice its cost, and the goal figure is what the goal costs, cut at the ceiling
+pub record Is-cost (rule : Rule) (cost : Set-cost) (p : Problem) (x : Table) (g : ℕ → Value) : Type 0 where
+  pub facts : (f : ℕ) → f < p .facts → x f ≡ doubled (g f)
+  pub goal : goal-figure rule p x ≡ cut-value (cost g (p .goal))
+
+-- so it is in the one table under the rule
 abbrev pub Agrees : Rule → Set-cost → Type 0
 Agrees rule cost =
     (p : Problem) → Lawful p → (s : State) (x : Table) → Solves (equations rule p s) x →
-    (g : ℕ → Value) → Costs cost p s g → goal-figure rule p x ≡ cut-value (cost g (p .goal))
+    (g : ℕ → Value) → Costs cost p s g → Is-cost rule cost p x g
 
 -- both heuristics are determined, and the goal figures are theirs
 pub record Heuristics : Type 0 where

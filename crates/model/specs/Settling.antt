@@ -4,23 +4,22 @@
 --   key          the smaller of the two
 --   Step         an inconsistent item of the least key gets its next figure
 --   Settling     steps in turn from some figures, with a row for each
+--   reads        whether the equation of an item reads another item
 --   Steps-keep, Settlings, Settling-ends, Local, Moved   the theorems
 --
 -- In all of them F x is what the equations make of the held figures x.
 use mathlib.Core.Path.{_≡_}
-use mathlib.Core.Bool.{Bool, true, false, cond}
+use mathlib.Core.Bool.{Bool, false, cond, _&&_}
 use mathlib.Core.Logic.{_≢_, _⊎_}
 use mathlib.Core.List.{List, [], _∷_, _++_}
-use Prim.Native.Nat.{ℕ, _*_, _<_, _≤_, min}
-use lib.Dec.{ltb}
+use Prim.Native.Nat.{ℕ, _-_, _*_, _<_, _≤_, min}
+use lib.Dec.{ltb, leb}
 use lib.ListN.{length, getD, set}
-use Rattle.std.specs.shelf.Lists.{All as Every}
 use Rattle.figure.specs.declared.figure.Figure.{Figure}
 use Rattle.figure.specs.declared.figure.Figure.the-variants.{None}
 use Rattle.figure.specs.Ranks.{top, rank}
-use Rattle.model.specs.Strips.{Problem, State, items}
-use Rattle.model.specs.Figures.{Rule, Laws, Table, table, Node, node, equations, Solves}
-use Rattle.model.specs.Figures.Node.{standing, added-by, needing, absent}
+use Rattle.model.specs.Strips.{Problem, State, items, names, action}
+use Rattle.model.specs.Figures.{Rule, Laws, Table, table, equations, Solves}
 use Rattle.model.specs.Docket.{Row, row, Docket}
 
 -- an item's held figure is what the equations make of the held figures
@@ -60,6 +59,7 @@ pub record Keeps (F : Table → Table) (x : Table) (k : ℕ) (y : Table) : Type 
   -- what the equations make of an item stays above l, for every l up to k: so above k itself after a raise from k
   pub above : (r l : ℕ) → l ≤ k → l < F x r → l < F y r
 
+-- every step of a settling keeps so
 abbrev pub Steps-keep : Type 0
 Steps-keep =
     (rule : Rule) → Laws rule → (p : Problem) (s : State) (figures : List Figure) (q : ℕ) (f : Figure) →
@@ -77,7 +77,7 @@ pub record Settles (n : ℕ) (F : Table → Table) (first figures : List Figure)
   -- where none is, these are the figures of the one table
   pub ended : ((r : ℕ) → r < n → Consistent F (table figures) r) → Solves F (table figures)
 
--- from any figures, steps end in the one table, whatever was held before
+-- so it is with every settling from any figures, whatever was held before
 abbrev pub Settlings : Type 0
 Settlings =
     (rule : Rule) → Laws rule → (p : Problem) (s : State) (first figures : List Figure) (rows : List Row) →
@@ -90,19 +90,17 @@ Settling-ends =
     (rule : Rule) → Laws rule → (p : Problem) (s : State) (first : List Figure) → length first ≡ items p →
     (figures : List Figure) × (rows : List Row) × Settling (equations rule p s) first figures rows × Solves (equations rule p s) (table figures)
 
--- the items that an equation reads
-abbrev pub reads : Node → List ℕ
-reads standing = []
-reads (added-by acts) = acts
-reads (needing pre) = pre
-reads absent = []
+-- whether the equation of item r reads item q: that of a fact the actions that add it, that of an action its preconditions
+abbrev pub reads : Problem → ℕ → ℕ → Bool
+reads p r q =
+    cond (ltb r (p .facts)) (leb (p .facts) q && names (action p (q - p .facts) .add) r) (names (action p (r - p .facts) .pre) q)
 
--- a change at q alone leaves the right-hand side of every item that does not read q
+-- a change of q alone leaves what the equations make of every item that does not read q
 abbrev pub Local : Type 0
 Local =
     (rule : Rule) (p : Problem) (s : State) (x y : Table) (q : ℕ) → ((r : ℕ) → r ≢ q → y r ≡ x r) →
-    (r : ℕ) → Every (λ a. a ≢ q) (reads (node p s r)) → equations rule p s y r ≡ equations rule p s x r
+    (r : ℕ) → reads p r q ≡ false → equations rule p s y r ≡ equations rule p s x r
 
--- where the standing facts change, only the facts that came or went have another equation
+-- where other facts stand, only the facts that came or went have another equation
 abbrev pub Moved : Type 0
 Moved = (rule : Rule) (p : Problem) (s u : State) (x : Table) (q : ℕ) → s q ≡ u q → equations rule p s x q ≡ equations rule p u x q
