@@ -1,12 +1,12 @@
 -- Figures of a problem's items: cost rules, the equations, the one table, the goal figure. Assumes nothing.
 --
---   Rule, Laws       a cost rule, and the laws that it keeps
+--   Rule, Laws                a cost rule, and the laws that it keeps
 --   additive-rule, max-rule   the two rules
---   Table            a figure for each item
---   Node, node       what an item is, as its equation reads it
---   equations        what the equations make of a table
---   Solves           the table is what the equations make of it
---   goal-figure      half the rule's result over the goal
+--   Table                     a figure for each item
+--   Node, node                what an item is, as its equation reads it
+--   equations                 what the equations make of a table
+--   Solves                    the table is what the equations make of it
+--   goal-figure               half the rule's result over the goal
 --   Compares, One-table, Both-lawful, Parity   the theorems
 --
 -- Figures are given by their ranks: a number is itself, and none is `top`.
@@ -63,7 +63,7 @@ max-rule (v ∷ vs) = cut (max v (max-rule vs))
 abbrev pub Table : Type 0
 Table = ℕ → ℕ
 
--- the figure of a rank
+-- the figure of a rank: the number, or none above the ceiling
 unfoldable pub figure-of : ℕ → Figure
 unfolding decLe
 figure-of v = elim (decLe v 2000000) [ yes h ↦ Number (record { value = v; within = h }) | no _ ↦ None ]
@@ -93,15 +93,16 @@ pub data Node : Type 0 where
   needing : List ℕ → Node
   absent : Node
 
+-- what item q is, in a problem and a state
 unfoldable pub node : Problem → State → ℕ → Node
 node p s q =
     cond (ltb q (p .facts)) (cond (s q) standing (added-by (adders p q))) (cond (ltb q (items p)) (needing (action p (q - p .facts) .pre)) absent)
 
--- a fact's figure, from the least one of the actions that add it
+-- a fact's figure, from the least one of the actions that add it: 1 more
 abbrev pub fact-from : ℕ → ℕ
 fact-from v = cut (v + 1)
 
--- an action's figure, from the rule's result over its preconditions
+-- an action's figure, from the rule's result over its preconditions: 1 more
 abbrev pub action-from : ℕ → ℕ
 action-from v = cut (v + 1)
 
@@ -120,7 +121,7 @@ equations rule p s x q = side rule x (node p s q)
 abbrev pub Solves : (Table → Table) → Table → Type 0
 Solves F x = (q : ℕ) → x q ≡ F x q
 
--- half the rule's result over the goal
+-- half the rule's result over the goal; half of none is none
 abbrev pub goal-figure : Rule → Problem → Table → ℕ
 goal-figure rule p x = halved (rule (map x (p .goal)))
 
@@ -138,6 +139,7 @@ Compares =
 abbrev pub One-table : Type 0
 One-table = (rule : Rule) → Laws rule → (p : Problem) (s : State) → One (equations rule p s)
 
+-- both rules keep the laws
 abbrev pub Both-lawful : Type 0
 Both-lawful = Laws additive-rule × Laws max-rule
 
@@ -147,5 +149,6 @@ pub record Halves (rule : Rule) (p : Problem) (x : Table) : Type 0 where
   pub actions : (k : ℕ) → k < length (p .actions) → Odd (x (p .facts + k))
   pub goal : rule (map x (p .goal)) < top → 2 * goal-figure rule p x ≡ rule (map x (p .goal))
 
+-- so it is in the one table, for every lawful rule and problem
 abbrev pub Parity : Type 0
 Parity = (rule : Rule) → Laws rule → (p : Problem) → Lawful p → (s : State) (x : Table) → Solves (equations rule p s) x → Halves rule p x

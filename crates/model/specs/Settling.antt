@@ -31,8 +31,8 @@ abbrev pub key : (Table → Table) → Table → ℕ → ℕ
 key F x q = min (x q) (F x q)
 
 -- no inconsistent item has a key below k
-abbrev pub Keys-from : (Table → Table) → Table → ℕ → Type 0
-Keys-from F x k = (r : ℕ) → Consistent F x r ⊎ (k ≤ key F x r)
+abbrev pub No-key-below : (Table → Table) → Table → ℕ → Type 0
+No-key-below F x k = (r : ℕ) → Consistent F x r ⊎ (k ≤ key F x r)
 
 -- an inconsistent item's next figure: what the equations make of it if that is smaller, or else none
 abbrev pub next : (Table → Table) → Table → ℕ → ℕ
@@ -42,7 +42,7 @@ next F x q = cond (ltb (F x q) (x q)) (F x q) top
 pub record Step (F : Table → Table) (figures : List Figure) (q : ℕ) (f : Figure) : Type 0 where
   pub item : q < length figures
   pub inconsistent : Consistent F (table figures) q → ⊥
-  pub least : Keys-from F (table figures) (key F (table figures) q)
+  pub least : No-key-below F (table figures) (key F (table figures) q)
   pub figure : rank f ≡ next F (table figures) q
 
 -- steps in turn from the first figures to the second, with the row of each
@@ -53,7 +53,7 @@ pub data Settling (F : Table → Table) (first : List Figure) : List Figure → 
 -- what a step keeps, k being its key
 pub record Keeps (F : Table → Table) (x : Table) (k : ℕ) (y : Table) : Type 0 where
   -- keys never fall
-  pub keys : Keys-from F y k
+  pub keys : No-key-below F y k
   -- an item that is consistent at or below k is final
   pub final : (r : ℕ) → Consistent F x r → x r ≤ k → (y r ≡ x r) × Consistent F y r
   -- what the equations make of an item stays above l, for every l up to k: so above k itself after a raise from k
