@@ -11,4 +11,5 @@ pub mod OneCost
 pub mod Doubled
 pub mod Plans
 pub mod Counts
+pub mod WorkedTables
 pub mod WorkedFigures

@@ -6,7 +6,7 @@ use lib.ListN.{length}
 use Rattle.figure.specs.declared.figure.Figure.{Figure}
 use Rattle.figure.specs.declared.figure.Figure.the-variants.{None}
 use Rattle.figure.specs.Ranks.{top}
-use Rattle.model.specs.Strips.{Problem, Plan, these}
+use Rattle.model.specs.Strips.{Problem, Lawful, Plan, these}
 use Rattle.model.specs.Figures.{Rule, Laws, additive-rule, max-rule, Table, figure-of, table, equations, Solves, goal-figure}
 use Rattle.model.specs.Docket.{Row, row, Docket}
 use Rattle.model.specs.Examples.{act, task-a}
@@ -82,6 +82,8 @@ rows-d = row 0 (figure-of 0) None ∷ row 4 (figure-of 1) None ∷ row 1 (figure
 
 -- what the definitions make of these tasks
 pub record Worked-figures : Type 0 where
+  -- they are lawful, so that every theorem speaks of them
+  pub lawful : Lawful task-a × Lawful task-b × Lawful task-c × Lawful task-d
   -- task A: facts 0, 2, 4, actions 1, 3, and goal figure 2 by both rules
   pub table-a : Both-told task-a (0 ∷ []) figures-a
   pub goal-a-additive : Goal-told additive-rule task-a (0 ∷ []) 2
