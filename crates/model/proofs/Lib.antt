@@ -1,2 +1,17 @@
 pub mod Rehearsals
 pub mod Examples
+pub mod Causal
+pub mod Equations
+pub mod Parities
+pub mod Ranked
+pub mod Steps
+pub mod Rows
+pub mod Tracks
+pub mod Runs
+pub mod Values
+pub mod OneCost
+pub mod Doubled
+pub mod Plans
+pub mod Counts
+pub mod WorkedTables
+pub mod WorkedFigures

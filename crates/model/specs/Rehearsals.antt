@@ -4,6 +4,7 @@
 --   verdict    the answer to a list of actions from a state
 --   Judged     what each answer says of the list
 --   Verdicts   the answer is the one that is so, and the only one
+--   reading    the number and the values of an answer
 use mathlib.Core.Path.{_≡_}
 use mathlib.Core.Bool.{Bool, true, false, cond}
 use mathlib.Core.List.{List, [], _∷_}
@@ -55,3 +56,15 @@ Judged p s acts (missing f) = Path p s acts × First-missing (after p s acts) (p
 abbrev pub Verdicts : Type 0
 Verdicts =
     (p : Problem) (s : State) (acts : List ℕ) (v : Verdict) → (verdict p s acts ≡ v → Judged p s acts v) × (Judged p s acts v → verdict p s acts ≡ v)
+
+-- how an answer is told: a plan, or a number with its values
+pub data Reading : Type 0 where
+  good : Reading
+  refused : ℕ → List ℕ → Reading
+
+-- 12 unknown action, with the step; 13 step blocked, with the step and the fact; 14 goal missing, with the fact
+abbrev pub reading : Verdict → Reading
+reading plan = good
+reading (unknown i) = refused 12 (i ∷ [])
+reading (blocked i f) = refused 13 (i ∷ f ∷ [])
+reading (missing f) = refused 14 (f ∷ [])

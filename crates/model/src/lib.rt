@@ -1,4 +1,5 @@
 // The subject: definitions in specs/, theorems in proofs/, each theorem named by a function's contract.
+pub mod figures;
 ghost use Rattle.model.specs.Examples.{Worked};
 ghost use Rattle.model.specs.Rehearsals.{Verdicts};
 

@@ -1,17 +1,22 @@
 -- Lists of facts as states, and tests over lists. Assumes nothing.
 use Prim.Native.Nat.{ℕ, zero, suc, _+_, _<_, _≤_}
 use mathlib.Core.Path.{_≡_, refl, ap, sym, subst, _∙_, fun-ext}
-use mathlib.Core.Bool.{Bool, true, false, cond, _&&_, _||_}
+use mathlib.Core.Bool.{Bool, true, false, cond, not, _&&_, _||_}
 use mathlib.Core.List.{List, [], _∷_, map}
 use mathlib.Core.Logic.{_⊎_, inl, inr, ⊎-elim}
 use native.Mathlib.Omega.{arith}
 use lib.Dec.{eqb, ltb}
 use lib.ListN.{length, getD, drop}
+use Rattle.std.specs.Options.{isSome}
+use Rattle.std.specs.Orderings.{Decides}
+use Rattle.std.specs.declared.option.Option.{Option}
 use Rattle.std.specs.shelf.Lists.{All as Every}
 use Rattle.std.specs.shelf.Lawful.{all-pass}
 use Rattle.std.proofs.shelf.Lists.{at-drop-more, at-drop-all}
-use Rattle.std.proofs.shelf.Tests.{eqb-true, eq-eqb, and-parts}
+use Rattle.std.proofs.shelf.Tests.{eqb-true, eq-eqb, and-parts, false≢true}
 use Rattle.model.specs.Strips.{State, Stands, names}
+use Rattle.model.specs.Rehearsals.{lacking}
+use Rattle.model.proofs.Rehearsals.{every-lacking, told-lacking}
 
 pub or-false : (a : Bool) → (a || false) ≡ a
 or-false true = refl
@@ -71,3 +76,8 @@ pub getD-map : {X Y : Type 0} (f : X → Y) (l : List X) (i : ℕ) (d : X) (e : 
 getD-map f [] i d e lt = absurd (omega arith)
 getD-map f (x ∷ l) zero d e lt = refl
 getD-map f (x ∷ l) (suc i) d e lt = getD-map f l i d e (omega arith)
+
+-- nothing is lacking exactly if each fact stands
+pub lacking-decides : (s : State) (l : List ℕ) (o : Option ℕ) (r : Bool) → o ≡ lacking s l → isSome o ≡ not r → Decides r (Every (Stands s) l)
+lacking-decides s l o true e h = ((λ _. ⊎-elim (λ every. every .0) (λ first. absurd (false≢true (sym h ∙ ap isSome (e ∙ first .2)))) (told-lacking s l)), λ _. refl)
+lacking-decides s l o false e h = ((λ z. absurd (false≢true z)), (λ every. absurd (false≢true (sym (ap isSome (e ∙ every-lacking s l every)) ∙ h))))

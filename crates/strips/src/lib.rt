@@ -1,4 +1,4 @@
-// Tasks, states, and rehearsals of plans.
+// Tasks and states.
 pub mod fault;
 pub mod list;
 pub mod lists;
@@ -8,3 +8,5 @@ pub mod action;
 pub mod actions;
 pub mod task;
 pub mod tasks;
+pub mod reading;
+pub mod moves;

@@ -96,12 +96,7 @@ impl State {
     pub fn has_all(&self, facts: &[u8]) -> bool
         ensures { λ r. ⌜ Decides r (Every (Stands (standing (now (self .entry)))) (now (facts .entry))) ⌝ }
     {
-        for f in facts {
-            if !self.stands(*f) {
-                return false;
-            }
-        }
-        true
+        self.first_missing(facts).is_none()
     }
 
     // The first fact of the list that does not stand.

@@ -10,13 +10,18 @@ use Rattle.strips.specs.Actions.{action-of}
 use Rattle.strips.proofs.Keeping.{action-at}
 use Rattle.strips.proofs.task.Task.action.Needs as need
 
-pub returns-then-number-len : need.returns-then-number-len
-returns-then-number-len c =
+pub returns-then-number-action-count : need.returns-then-number-action-count
+returns-then-number-action-count c =
     let t = c .args .self .now in
     nth-past (map action-of (vec-items (t .actions))) (c .args .number) (omega (arith, t .actions .ok .0, length-map (vec-items (t .actions)) action-of))
 
 pub returns : need.returns
 returns c =
     let t = c .args .self .now in
-    nth-getD (map action-of (vec-items (t .actions))) (c .args .number) no-action (omega (arith, t .actions .ok .0, length-map (vec-items (t .actions)) action-of))
-    ∙ ap Some (action-at t (c .args .number) (c .index .result .now) (omega (arith, t .actions .ok .0)) (c .index .ensures))
+    nth-getD (map action-of (vec-items (t .actions))) (c .args .number) no-action (omega (arith, t .actions .ok .0, length-map (vec-items (t .actions)) action-of, c .action-count .ensures .is))
+    ∙ ap Some (action-at t (c .args .number) (c .index .result .now) (omega (arith, t .actions .ok .0, length-map (vec-items (t .actions)) action-of, c .action-count .ensures .is)) (c .index .ensures))
+
+pub index-requires : need.index-requires
+index-requires c κs =
+    let t = c .args .self .now in
+    omega (arith, t .actions .ok .0, length-map (vec-items (t .actions)) action-of, c .action-count .ensures .is)

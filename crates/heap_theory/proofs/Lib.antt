@@ -1,0 +1,4 @@
+pub mod Swaps
+pub mod Sifts
+pub mod Resets
+pub mod Edits

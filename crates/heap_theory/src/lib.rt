@@ -1,0 +1,1 @@
+// The theory of binary heaps: definitions in specs/, lemmas in proofs/.

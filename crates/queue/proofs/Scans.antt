@@ -1,0 +1,59 @@
+-- Lemmas on a scan of a table. Assumes nothing.
+use Prim.Native.Nat.{ℕ, _+_, _<_}
+use lib.ListN.{length, set}
+use mathlib.Core.Path.{_≡_, refl, sym, subst}
+use mathlib.Core.Bool.{Bool, true, false, not}
+use mathlib.Core.Logic.{inl, inr}
+use mathlib.Core.List.{List}
+use native.Mathlib.Omega.{arith}
+use borrow.Author.Count.{below-more}
+use Rattle.std.specs.Options.{isSome}
+use Rattle.std.specs.declared.option.Option.{Option}
+use Rattle.std.specs.declared.option.Option.the-variants.{Some, None}
+use Rattle.queue.specs.Keys.{Orders}
+use Rattle.queue.specs.Queues.{at, vacant, Taken, Smallest}
+use Rattle.queue.specs.Scans.{Found, Better}
+use Rattle.queue.proofs.Tables.{differ, none-some, some-some, at-within, empty-vacant, not-vacant, leq-refl}
+
+module _ {K : Type 0} where
+  module _ (leq : K → K → Bool) where
+    pub found-skip : (t : List (Option K)) (i : ℕ) (best : Option (ℕ × K)) → at t i ≡ None → Found leq t i best → Found leq t (i + 1) best
+    found-skip t i None e f = below-more _ i f e
+    found-skip t i (Some p) e f =
+        (let h = f .0 in omega arith, f .1, below-more (λ j. (x : K) → at t j ≡ Some x → leq (p .1) x ≡ true) i (f .2) (λ x q. absurd (none-some e q)))
+
+    found-none : (t : List (Option K)) → Found leq t (length t) None → vacant t ≡ true
+    found-none t f = empty-vacant t (λ j. none-of j (at t j) refl) where
+      none-of : (j : ℕ) (o : Option K) → at t j ≡ o → at t j ≡ None
+      none-of j None e = e
+      none-of j (Some x) e = f j (at-within t j x e)
+
+    pub take-some : (t u : List (Option K)) (r : Option (ℕ × K)) (i : ℕ) (k : K) → u ≡ t → Found leq u (length u) r → r ≡ Some (i, k) → Taken t (set t i None) r × Smallest leq t r
+    take-some t u r i k e f q =
+        let g = subst (λ w. Found leq w (length w) (Some (i, k))) e (subst (Found leq u (length u)) q f) in
+        subst (λ o. Taken t (set t i None) o × Smallest leq t o) (sym q) ((g .1, refl), λ j x z. g .2 j (at-within t j x z) x z)
+
+    pub take-none : (t u : List (Option K)) (r : Option (ℕ × K)) → u ≡ t → Found leq u (length u) r → r ≡ None → Taken t t r × Smallest leq t r
+    take-none t u r e f q =
+        subst (λ o. Taken t t o × Smallest leq t o) (sym q)
+        ((found-none t (subst (λ w. Found leq w (length w) None) e (subst (Found leq u (length u)) q f)), refl), tt)
+
+    pub found-test : (t u : List (Option K)) (r : Option (ℕ × K)) (b : Bool) → u ≡ t → Found leq u (length u) r → isSome r ≡ not b → b ≡ vacant t
+    found-test t u None true e f q = sym (found-none t (subst (λ w. Found leq w (length w) None) e f))
+    found-test t u None false e f q = absurd (differ (sym q))
+    found-test t u (Some p) true e f q = absurd (differ q)
+    found-test t u (Some p) false e f q = sym (not-vacant t (p .0) (p .1) (subst (λ w. at w (p .0) ≡ Some (p .1)) e (f .1)))
+
+  module _ {leq : K → K → Bool} (o : Orders leq) where
+    new-best : (t : List (Option K)) (i : ℕ) (key : K) → at t i ≡ Some key → ((j : ℕ) → j < i → (x : K) → at t j ≡ Some x → leq key x ≡ true) → Found leq t (i + 1) (Some (i, key))
+    new-best t i key e f =
+        (omega arith, e, below-more (λ j. (x : K) → at t j ≡ Some x → leq key x ≡ true) i f (λ x q. subst (λ y. leq key y ≡ true) (some-some e q) (leq-refl o key)))
+
+    pub found-more : (t : List (Option K)) (i : ℕ) (key : K) (best r : Option (ℕ × K)) → at t i ≡ Some key → Found leq t i best → Better leq best i key r → Found leq t (i + 1) r
+    found-more t i key None r e f b = subst (Found leq t (i + 1)) (sym b) (new-best t i key e (λ j h x q. absurd (none-some (f j h) q)))
+    found-more t i key (Some p) r e f (inl b) =
+        subst (Found leq t (i + 1)) (sym (b .0))
+        (let h = f .0 in omega arith, f .1, below-more (λ j. (x : K) → at t j ≡ Some x → leq (p .1) x ≡ true) i (f .2) (λ x q. subst (λ y. leq (p .1) y ≡ true) (some-some e q) (b .1)))
+    found-more t i key (Some p) r e f (inr b) =
+        subst (Found leq t (i + 1)) (sym (b .0))
+        (new-best t i key e (λ j h x q. o .trans key (p .1) x (b .1) (f .2 j h x q)))
