@@ -5,32 +5,36 @@ use std::test::*;
 #[test]
 fn a_bad_digit_at_its_column(rt: LibcRuntime) -> Result<(), Fail> {
     let heap = rt.alloc();
-    instead(heap, 1, b"g1030002\n", 1, 1)?;
-    instead(heap, 1, b"0A030002\n", 1, 2)?;
-    instead(heap, 1, b"01/30002\n", 1, 3)?;
-    instead(heap, 1, b"010:0002\n", 1, 4)?;
-    instead(heap, 1, b"0103`002\n", 1, 5)?;
-    instead(heap, 1, b"01030 02\n", 1, 6)?;
-    instead(heap, 1, b"01030002\r\n", 1, 9)?;
-    instead(heap, 2, b"0201010100010x\n", 1, 14)?;
-    instead(heap, 3, b"02-10101010201\n", 1, 3)?;
-    instead(heap, 4, b"0301 2\n", 1, 5)?;
-    instead(heap, 5, b"\t40100\n", 1, 1)?;
-    instead(heap, 6, b"0G\n", 1, 2)?;
-    instead(heap, 7, b"z\n", 1, 1)
+    each(heap, &[
+        at(1, b"g1030002\n", 1, 1),
+        at(1, b"0A030002\n", 1, 2),
+        at(1, b"01/30002\n", 1, 3),
+        at(1, b"010:0002\n", 1, 4),
+        at(1, b"0103`002\n", 1, 5),
+        at(1, b"01030 02\n", 1, 6),
+        at(1, b"01030002\r\n", 1, 9),
+        at(2, b"0201010100010x\n", 1, 14),
+        at(3, b"02-10101010201\n", 1, 3),
+        at(4, b"0301 2\n", 1, 5),
+        at(5, b"\t40100\n", 1, 1),
+        at(6, b"0G\n", 1, 2),
+        at(7, b"z\n", 1, 1),
+    ])
 }
 
 #[test]
 fn an_odd_line_at_its_end(rt: LibcRuntime) -> Result<(), Fail> {
     let heap = rt.alloc();
-    instead(heap, 1, b"0\n", 1, 2)?;
-    instead(heap, 1, b"010300020\n", 1, 10)?;
-    instead(heap, 2, b"0201010100010\n", 1, 14)?;
-    instead(heap, 3, b"020101010102010\n", 1, 16)?;
-    instead(heap, 4, b"03010\n", 1, 6)?;
-    instead(heap, 5, b"04010\n", 1, 6)?;
-    instead(heap, 6, b"050\n", 1, 4)?;
-    instead(heap, 7, b"050\n", 1, 4)
+    each(heap, &[
+        at(1, b"0\n", 1, 2),
+        at(1, b"010300020\n", 1, 10),
+        at(2, b"0201010100010\n", 1, 14),
+        at(3, b"020101010102010\n", 1, 16),
+        at(4, b"03010\n", 1, 6),
+        at(5, b"04010\n", 1, 6),
+        at(6, b"050\n", 1, 4),
+        at(7, b"050\n", 1, 4),
+    ])
 }
 
 #[test]
@@ -73,15 +77,17 @@ fn beside_the_515th_digit(rt: LibcRuntime) -> Result<(), Fail> {
 #[test]
 fn the_text_ends_inside_a_line(rt: LibcRuntime) -> Result<(), Fail> {
     let heap = rt.alloc();
-    cut(heap, 1, b"0", 7, 2)?;
-    cut(heap, 1, b"0103", 7, 5)?;
-    cut(heap, 1, b"01030002", 7, 9)?;
-    cut(heap, 2, b"020", 7, 4)?;
-    cut(heap, 3, b"02010101010201", 7, 15)?;
-    cut(heap, 4, b"0", 7, 2)?;
-    cut(heap, 5, b"04010", 7, 6)?;
-    cut(heap, 6, b"05", 7, 3)?;
-    cut(heap, 7, b"0", 7, 2)
+    each_cut(heap, &[
+        at(1, b"0", 7, 2),
+        at(1, b"0103", 7, 5),
+        at(1, b"01030002", 7, 9),
+        at(2, b"020", 7, 4),
+        at(3, b"02010101010201", 7, 15),
+        at(4, b"0", 7, 2),
+        at(5, b"04010", 7, 6),
+        at(6, b"05", 7, 3),
+        at(7, b"0", 7, 2),
+    ])
 }
 
 #[test]
@@ -97,10 +103,12 @@ fn the_text_ends_between_lines(rt: LibcRuntime) -> Result<(), Fail> {
 #[test]
 fn an_unfinished_line(rt: LibcRuntime) -> Result<(), Fail> {
     let heap = rt.alloc();
-    cut(heap, 1, b"05", 7, 3)?;
-    cut(heap, 2, b"99", 7, 3)?;
-    cut(heap, 3, b"0x", 1, 2)?;
-    cut(heap, 6, b"0501z", 1, 5)?;
-    cut(heap, 7, b"05", 7, 3)?;
-    cut(heap, 7, b" ", 1, 1)
+    each_cut(heap, &[
+        at(1, b"05", 7, 3),
+        at(2, b"99", 7, 3),
+        at(3, b"0x", 1, 2),
+        at(6, b"0501z", 1, 5),
+        at(7, b"05", 7, 3),
+        at(7, b" ", 1, 1),
+    ])
 }

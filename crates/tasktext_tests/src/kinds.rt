@@ -21,9 +21,11 @@ fn another_kind_than_the_one_due(rt: LibcRuntime) -> Result<(), Fail> {
 fn a_kind_that_is_none(rt: LibcRuntime) -> Result<(), Fail> {
     let heap = rt.alloc();
     for k in 1..8u16 {
-        instead(heap, k, b"00\n", 3, 0)?;
-        instead(heap, k, b"06\n", 3, 0)?;
-        instead(heap, k, b"ff030002\n", 3, 0)?;
+        each(heap, &[
+            at(k, b"00\n", 3, 0),
+            at(k, b"06\n", 3, 0),
+            at(k, b"ff030002\n", 3, 0),
+        ])?;
     }
     Ok(())
 }

@@ -5,8 +5,6 @@ use tasktext::text::read_task;
 use textfault::fault::ReadFault;
 
 // The lines of a small task: three facts, action 0 leads from 0 to 1, action 1 from 1 to 2, each deleting what it needs.
-pub const LINES: usize = 6;
-
 pub fn line(number: usize) -> &'static [u8] {
     match number {
         1 => b"01030002\n",
@@ -66,6 +64,33 @@ pub fn cut(heap: Global, at_line: u16, end: &[u8], number: u8, place: u16) -> Re
     }
     add(&mut text, end)?;
     gives(heap, text.as_slice(), number, at_line, place)
+}
+
+// A damaged line, or a text's end, and the fault that it gives.
+#[derive(Clone, Copy)]
+pub struct Damage<'a> {
+    line: u16,
+    damaged: &'a [u8],
+    number: u8,
+    place: u16,
+}
+
+pub fn at(line: u16, damaged: &[u8], number: u8, place: u16) -> Damage<'_> {
+    Damage { line, damaged, number, place }
+}
+
+pub fn each(heap: Global, table: &[Damage<'_>]) -> Result<(), Fail> {
+    for k in 0..table.len() {
+        instead(heap, table[k].line, table[k].damaged, table[k].number, table[k].place)?;
+    }
+    Ok(())
+}
+
+pub fn each_cut(heap: Global, table: &[Damage<'_>]) -> Result<(), Fail> {
+    for k in 0..table.len() {
+        cut(heap, table[k].line, table[k].damaged, table[k].number, table[k].place)?;
+    }
+    Ok(())
 }
 
 // The same character over and over, then an end.
