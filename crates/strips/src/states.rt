@@ -48,7 +48,7 @@ impl State {
         ensures told { λ r. ⌜ r ≡ not (standing (now (self .entry)) fact) ⌝ }
         ensures after { λ _. ⌜ standing (now (self .exit)) ≡ entered fact (standing (now (self .entry))) ⌝ }
     {
-        let stood = self.facts.get(fact);
+        let stood = self.stands(fact);
         self.facts.set(fact);
         !stood
     }
@@ -58,7 +58,7 @@ impl State {
         ensures told { λ r. ⌜ r ≡ standing (now (self .entry)) fact ⌝ }
         ensures after { λ _. ⌜ standing (now (self .exit)) ≡ struck fact (standing (now (self .entry))) ⌝ }
     {
-        let had_stood = self.facts.get(fact);
+        let had_stood = self.stands(fact);
         self.facts.clear(fact);
         had_stood
     }

@@ -6,11 +6,12 @@ use lib.ListN.{getD, drop}
 use Rattle.model.specs.Strips.{Within}
 use Rattle.model.specs.Rehearsals.{verdict-from, reading, lacking, unless, missing, plan}
 use Rattle.std.specs.declared.option.Option.the-variants.{Some}
-use Rattle.strips.specs.Standing.{standing, First-from}
+use Rattle.strips.specs.Members.{First-from}
+use Rattle.strips.specs.Standing.{standing}
 use Rattle.strips.specs.Tasks.{problem}
 use Rattle.strips.specs.Actions.{action-of}
 use Rattle.rehearsal.proofs.Along.{at-unknown, at-blocked, at-step, at-end, within-answer, beyond-answer}
-use Rattle.rehearsal.proofs.rehearse.rehearse.Needs as need
+use Rattle.rehearsal.proofs.rehearse.tried.Needs as need
 
 pub returns-in-Some : need.returns-in-Some
 returns-in-Some c =

@@ -4,7 +4,7 @@ use lib.ListN.{drop}
 use Rattle.model.specs.Rehearsals.{verdict-from, verdict}
 use Rattle.strips.specs.Standing.{standing}
 use Rattle.strips.specs.Tasks.{problem}
-use Rattle.rehearsal.proofs.rehearse.rehearse.Given as given
+use Rattle.rehearsal.proofs.rehearse.tried.Given as given
 
 abbrev pub Inv-loop-step : given.InvT-loop-step
 Inv-loop-step l =
