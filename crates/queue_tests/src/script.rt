@@ -17,12 +17,23 @@ pub struct Random {
 
 impl Random {
     fn below(&mut self, bound: usize) -> usize {
-        self.state = self.state.wrapping_mul(1_664_525).wrapping_add(1_013_904_223);
-        if bound == 0 { 0 } else { (self.state >> 8) as usize % bound }
+        self.state = self.state
+            .wrapping_mul(1_664_525)
+            .wrapping_add(1_013_904_223);
+        if bound == 0 {
+            0
+        } else {
+            (self.state >> 8) as usize % bound
+        }
     }
 }
 
-fn put<Q: Queue>(queue: &mut Q, list: &mut [Option<Q::Key>], item: usize, key: Q::Key) -> Result<(), Fail> {
+fn put<Q: Queue>(
+    queue: &mut Q,
+    list: &mut [Option<Q::Key>],
+    item: usize,
+    key: Q::Key,
+) -> Result<(), Fail> {
     match queue.put(item, key) {
         Ok(()) => {
             check(item < list.len())?;
@@ -47,7 +58,11 @@ fn take<Q: Queue>(queue: &mut Q, list: &mut [Option<Q::Key>]) -> Result<(), Fail
     }
 }
 
-fn drop_item<Q: Queue>(queue: &mut Q, list: &mut [Option<Q::Key>], item: usize) -> Result<(), Fail> {
+fn drop_item<Q: Queue>(
+    queue: &mut Q,
+    list: &mut [Option<Q::Key>],
+    item: usize,
+) -> Result<(), Fail> {
     check(queue.drop_item(item) == key_of(list, item).is_some())?;
     write(list, item, None);
     Ok(())
@@ -76,7 +91,13 @@ fn finish<Q: Queue>(queue: &mut Q, list: &mut [Option<Q::Key>], heap: Global) ->
 }
 
 // Works the calls on the queue and on the list, which holds nothing and is as long as the capacity.
-pub fn work<Q: Queue>(queue: &mut Q, list: &mut [Option<Q::Key>], keys: &[Q::Key], calls: u32, heap: Global) -> Result<(), Fail> {
+pub fn work<Q: Queue>(
+    queue: &mut Q,
+    list: &mut [Option<Q::Key>],
+    keys: &[Q::Key],
+    calls: u32,
+    heap: Global,
+) -> Result<(), Fail> {
     let mut random = Random { state: calls };
     compare(queue, list)?;
     for _ in 0..calls {

@@ -18,7 +18,14 @@ const fn pair(first: u32, second: u32) -> Pair {
 
 #[test]
 fn figures(rt: LibcRuntime) -> Result<(), Fail> {
-    let keys = [Figure::of(7), Figure::None, Figure::of(0), Figure::of(2_000_000), Figure::of(7), Figure::of(8)];
+    let keys = [
+        Figure::of(7),
+        Figure::None,
+        Figure::of(0),
+        Figure::of(2_000_000),
+        Figure::of(7),
+        Figure::of(8),
+    ];
     let heap = rt.alloc();
     for capacity in [0, 1, 2, 7, 30] {
         let mut table: TableQueue<Figure> = TableAsQueue::new(heap, capacity)?;
@@ -32,7 +39,15 @@ fn figures(rt: LibcRuntime) -> Result<(), Fail> {
 
 #[test]
 fn pairs(rt: LibcRuntime) -> Result<(), Fail> {
-    let keys = [pair(5, 0), pair(0, 5), pair(0, 4), pair(5, u32::MAX), pair(u32::MAX, 0), pair(5, 1), pair(0, 5)];
+    let keys = [
+        pair(5, 0),
+        pair(0, 5),
+        pair(0, 4),
+        pair(5, u32::MAX),
+        pair(u32::MAX, 0),
+        pair(5, 1),
+        pair(0, 5),
+    ];
     let heap = rt.alloc();
     for capacity in [0, 1, 3, 8, 31] {
         let mut table: TableQueue<Pair> = TableAsQueue::new(heap, capacity)?;
