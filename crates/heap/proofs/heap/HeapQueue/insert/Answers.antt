@@ -4,14 +4,11 @@ use lib.ListN.{set}
 use Rattle.std.proofs.shelf.Lists.{refilled-is}
 use Rattle.std.specs.declared.option.Option.the-variants.{Some}
 use Rattle.heap_theory.specs.Heaps.{Shape, Ordered}
-use Rattle.heap.proofs.Stores.{of-same, of-refilled, owed, same-heap}
-use Rattle.heap.proofs.heap.HeapAsQueue.put.Needs as need
+use Rattle.heap.proofs.Stores.{of-same, of-refilled, owed, shape-of}
+use Rattle.heap.proofs.heap.HeapQueue.insert.Needs as need
 
-pub returns-then-item-len : need.returns-then-item-len
-returns-then-item-len g c = record { keeps = λ s. s; after = record { number = refl; beyond = omega arith; same = same-heap (c .args .self .now) _ } }
-
-pub ghost-self-2 : need.ghost-self-2
-ghost-self-2 g c =
+pub ghost-self : need.ghost-self
+ghost-self g c =
     let v = c .args .self .now in
     let k = c .store-self .kept .keys ∙ c .deref-mut .ensures .len in
     let s = c .store-self .kept .slots ∙ c .deref-mut-2 .ensures .len in
@@ -28,11 +25,8 @@ returns g c =
     let p = c .store-self .kept .places ∙ c .deref-mut-3 .ensures .len in
     let n = c .store-self .result in
     record {
-      keeps = λ ok.
+      order = λ ok.
           of-refilled (λ a b d. Ordered leq a b n) (v .keys) (v .slots) (v .places) (c .store-self .last .keys) (c .store-self .last .slots) (c .store-self .last .places) k s p
           (c .store-self .ensures .order (of-same (λ a b d. Ordered leq a b (v .size)) (c .deref-mut .ensures .value) (c .deref-mut-2 .ensures .value) (c .deref-mut-3 .ensures .value) ok));
-      after = record {
-        within = omega arith;
-        after = refilled-is (v .keys) (c .store-self .last .keys) k ∙ c .store-self .ensures .after ∙ ap (λ t. set t (c .args .item) (Some (c .args .key))) (c .deref-mut .ensures .value);
-      };
+      after = refilled-is (v .keys) (c .store-self .last .keys) k ∙ c .store-self .ensures .after ∙ ap (λ t. set t (c .args .item) (Some (c .args .key))) (c .deref-mut .ensures .value);
     }

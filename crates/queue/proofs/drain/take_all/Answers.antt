@@ -8,24 +8,25 @@ use Rattle.std.specs.declared.option.Option.the-variants.{None}
 use Rattle.queue.specs.Queues.{count, Removes, Drained}
 use Rattle.queue.proofs.Tables.{count-taken, count-within}
 use Rattle.queue.proofs.Drains.{Ahead, removes-more, ahead-more, ahead-ascends, drained}
-use Rattle.queue.proofs.drain.drain.Needs as need
+use Rattle.queue.proofs.drain.take_all.Needs as need
 
 pub loop-pair-holds : need.loop-pair-holds
 loop-pair-holds g c =
     let t = g .Q·Queue .pairs (c .args .queue .now) in
     let leq = g .Key·Key .leq in
-    let made = c .in-Continue-all .ensures tt .made in (
+    let l = vec-items (c .args .all .now) in
+    let none : [] ≡ l = sym (c .pre .empty .0) in (
       λ s. s,
-      subst (λ l. Removes t l t) (sym (made .0)) refl,
-      λ s. subst (λ l. Ahead leq l t) (sym (made .0)) tt,
-      omega (arith, made .1 .0, made .1 .1, c .capacity .ensures, count-within t),
+      subst (λ v. Removes t v t) none refl,
+      λ s. subst (λ v. Ahead leq v t) none tt,
+      omega (arith, c .pre .empty .1, c .pre .room, count-within t),
     )
 
 pub push-reserved-requires : need.push-reserved-requires
 push-reserved-requires g c κs =
     let p = c .in-Some .pair in
     let took = c .in-Some .ensures tt .after in
-    omega (arith, c .loop-pair .inv .3, count-taken (g .Q·Queue .pairs (c .loop-pair .queue)) (p .0) (p .1) (took .0))
+    omega (arith, c .loop-pair .inv .3, count-taken (g .Q·Queue .pairs (c .loop-pair .queue)) (p .0) (p .1) (took .1))
 
 -- one pair fewer is held after a take
 fewer : need.loop-pair-less
@@ -34,8 +35,8 @@ fewer g c =
     let took = c .in-Some .ensures tt .after in
     let u = g .Q·Queue .pairs (c .loop-pair .queue) in
     let w = g .Q·Queue .pairs (c .take .last .self) in
-    let e : count w ≡ count (set u (p .0) None) = subst (λ v. count w ≡ count v) (took .1) refl in
-    omega (arith, count-taken u (p .0) (p .1) (took .0), e)
+    let e : count w ≡ count (set u (p .0) None) = subst (λ v. count w ≡ count v) (took .2) refl in
+    omega (arith, count-taken u (p .0) (p .1) (took .1), e)
 
 pub loop-pair-less : need.loop-pair-less
 loop-pair-less g c = fewer g c
@@ -53,10 +54,10 @@ loop-pair-again g c =
     let inv = c .loop-pair .inv in
     let push = c .push-reserved .ensures in
     let items : l ++ p ∷ [] ≡ m = sym (push .items) in
-    let left : set u (p .0) None ≡ w = sym (took .after .1) in (
+    let left : set u (p .0) None ≡ w = sym (took .after .2) in (
       λ s. took .keeps (inv .0 s),
-      subst (λ v. Removes t v w) items (subst (Removes t (l ++ p ∷ [])) left (removes-more t l u p (inv .1) (took .after .0))),
-      λ s. subst (λ v. Ahead leq v w) items (subst (Ahead leq (l ++ p ∷ [])) left (ahead-more leq l u p (inv .2 s) (took .after .0) (took .least (inv .0 s)))),
+      subst (λ v. Removes t v w) items (subst (Removes t (l ++ p ∷ [])) left (removes-more t l u p (inv .1) (took .after .1))),
+      λ s. subst (λ v. Ahead leq v w) items (subst (Ahead leq (l ++ p ∷ [])) left (ahead-more leq l u p (inv .2 s) (took .after .1) (took .least (inv .0 s)))),
       omega (arith, inv .3, push .len, push .capacity, fewer g c),
     )
 

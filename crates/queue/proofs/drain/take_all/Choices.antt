@@ -4,7 +4,7 @@ use mathlib.Core.Path.{_≡_}
 use Rattle.std.specs.Of.Vec.{vec-items, vec-len, vec-cap}
 use Rattle.queue.specs.Queues.{count, Removes}
 use Rattle.queue.proofs.Drains.{Ahead}
-use Rattle.queue.proofs.drain.drain.Given as given
+use Rattle.queue.proofs.drain.take_all.Given as given
 
 abbrev pub Inv-loop-pair : given.InvT-loop-pair
 Inv-loop-pair g l =
