@@ -1,11 +1,14 @@
 // The heap as a queue. All its memory is got when it is made.
 ghost use mathlib.Core.Path.{_≡_};
+ghost use mathlib.Core.Bool.{not};
 ghost use Prim.Native.Nat.{ℕ, _<_, _≤_};
 ghost use lib.Dec.{ltb};
-ghost use lib.ListN.{length, getD};
+ghost use lib.ListN.{length, getD, set, replicate};
 ghost use Rattle.std.specs.Of.Vec.{vec-items};
 ghost use Rattle.std.specs.Options.{isSome};
 ghost use Rattle.std.specs.Vec.{made};
+ghost use Rattle.std.specs.declared.option.Option.the-variants.{Some, None};
+ghost use Rattle.queue.specs.Queues.{held as in-queue, vacant, Front, Smallest};
 ghost use Rattle.heap_theory.specs.Heaps.{slot-key, Ordered};
 use crate::edits::remove;
 use crate::edits::store;
@@ -43,6 +46,84 @@ fn numbers(heap: Global, n: usize) -> Result<Vec<usize>, AllocError>
     Ok(all)
 }
 
+// A heap of no items: each stands in the slot of its number.
+fn empty<K: Key>(heap: Global, capacity: usize) -> Result<HeapQueue<K>, AllocError>
+    ensures { λ r. ⌜ made r (λ q. (vec-items (q .keys) ≡ replicate capacity None) × (q .size ≡ 0)) ⌝ }
+{
+    let mut keys = Vec::new(heap);
+    keys.resize(capacity, None)?;
+    let slots = numbers(heap, capacity)?;
+    let places = numbers(heap, capacity)?;
+    Ok(HeapQueue {
+        keys,
+        slots,
+        places,
+        size: 0,
+    })
+}
+
+impl<K: Key> HeapQueue<K> {
+    fn contains(&self, item: usize) -> bool
+        ensures { λ r. ⌜ r ≡ in-queue (vec-items (now (self .entry) .keys)) item ⌝ }
+    {
+        if item < self.keys.len() {
+            self.keys[item].is_some()
+        } else {
+            false
+        }
+    }
+
+    // The item in the first slot, with its key.
+    fn root(&self) -> Option<(usize, K)>
+        ensures found { λ r. ⌜ Front (vec-items (now (self .entry) .keys)) r ⌝ }
+        ensures some { λ r. ⌜ vacant (vec-items (now (self .entry) .keys)) ≡ not (isSome r) ⌝ }
+        ensures least { λ r. ⌜ (Ordered (K·Key .leq) (vec-items (now (self .entry) .keys)) (vec-items (now (self .entry) .slots)) (now (self .entry) .size) → Smallest (K·Key .leq) (vec-items (now (self .entry) .keys)) r) ⌝ }
+    {
+        if self.size == 0 {
+            return None;
+        }
+        let item = self.slots[0];
+        let first = self.keys[item];
+        match first {
+            Some(key) => Some((item, key)),
+            None => None,
+        }
+    }
+
+    // Adds an item or gives it another key.
+    fn insert(&mut self, item: usize, key: K)
+        requires { ⌜ item < length (vec-items (now self .keys)) ⌝ }
+        ensures after { λ _. ⌜ vec-items (now (self .exit) .keys) ≡ set (vec-items (now (self .entry) .keys)) item (Some key) ⌝ }
+        ensures order { λ _. ⌜ (Ordered (K·Key .leq) (vec-items (now (self .entry) .keys)) (vec-items (now (self .entry) .slots)) (now (self .entry) .size) → Ordered (K·Key .leq) (vec-items (now (self .exit) .keys)) (vec-items (now (self .exit) .slots)) (now (self .exit) .size)) ⌝ }
+    {
+        self.size = store(
+            &mut self.keys,
+            &mut self.slots,
+            &mut self.places,
+            self.size,
+            item,
+            key,
+        );
+    }
+
+    // Removes an item, if it is held.
+    fn discard(&mut self, item: usize)
+        ensures after { λ _. ⌜ vec-items (now (self .exit) .keys) ≡ set (vec-items (now (self .entry) .keys)) item None ⌝ }
+        ensures order { λ _. ⌜ (Ordered (K·Key .leq) (vec-items (now (self .entry) .keys)) (vec-items (now (self .entry) .slots)) (now (self .entry) .size) → Ordered (K·Key .leq) (vec-items (now (self .exit) .keys)) (vec-items (now (self .exit) .slots)) (now (self .exit) .size)) ⌝ }
+    {
+        if self.contains(item) {
+            remove(
+                &mut self.keys,
+                &mut self.slots,
+                &mut self.places,
+                self.size,
+                item,
+            );
+            self.size -= 1;
+        }
+    }
+}
+
 pub impl<K: Key> Queue for HeapQueue<K> as HeapAsQueue {
     type Key = K;
 
@@ -52,16 +133,7 @@ pub impl<K: Key> Queue for HeapQueue<K> as HeapAsQueue {
     ghost sound = { λ q. Ordered (K·Key .leq) (vec-items (q .keys)) (vec-items (q .slots)) (q .size) };
 
     fn new(heap: Global, capacity: usize) -> Result<HeapQueue<K>, AllocError> {
-        let mut keys = Vec::new(heap);
-        keys.resize(capacity, None)?;
-        let slots = numbers(heap, capacity)?;
-        let places = numbers(heap, capacity)?;
-        Ok(HeapQueue {
-            keys,
-            slots,
-            places,
-            size: 0,
-        })
+        empty(heap, capacity)
     }
 
     fn capacity(&self) -> usize {
@@ -69,67 +141,32 @@ pub impl<K: Key> Queue for HeapQueue<K> as HeapAsQueue {
     }
 
     fn is_empty(&self) -> bool {
-        self.size == 0
+        self.root().is_none()
     }
 
     fn holds(&self, item: usize) -> bool {
-        if item < self.keys.len() {
-            self.keys[item].is_some()
-        } else {
-            false
-        }
+        self.contains(item)
     }
 
     fn put(&mut self, item: usize, key: K) -> Result<(), QueueRefusal> {
         if item >= self.keys.len() {
             return Err(QueueRefusal::Beyond);
         }
-        self.size = store(
-            &mut self.keys,
-            &mut self.slots,
-            &mut self.places,
-            self.size,
-            item,
-            key,
-        );
+        self.insert(item, key);
         Ok(())
     }
 
     fn drop_item(&mut self, item: usize) -> bool {
-        if item >= self.keys.len() {
-            return false;
-        }
-        if self.keys[item].is_none() {
-            return false;
-        }
-        remove(
-            &mut self.keys,
-            &mut self.slots,
-            &mut self.places,
-            self.size,
-            item,
-        );
-        self.size -= 1;
-        true
+        let was = self.contains(item);
+        self.discard(item);
+        was
     }
 
     fn take(&mut self) -> Option<(usize, K)> {
-        if self.size == 0 {
-            return None;
-        }
-        let item = self.slots[0];
-        let held = self.keys[item];
-        match held {
-            Some(key) => {
-                remove(
-                    &mut self.keys,
-                    &mut self.slots,
-                    &mut self.places,
-                    self.size,
-                    item,
-                );
-                self.size -= 1;
-                Some((item, key))
+        match self.root() {
+            Some(pair) => {
+                self.discard(pair.0);
+                Some(pair)
             }
             None => None,
         }

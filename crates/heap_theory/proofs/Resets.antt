@@ -133,4 +133,3 @@ module _ {K : Type 0} where
       (λ kp. ap isSome (s .other k kp ks) ∙ old k kn ∙ sym (more-same k last ks))
       (cases-eq k p))
       (cases-eq k last)
-

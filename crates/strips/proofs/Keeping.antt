@@ -19,7 +19,8 @@ use Rattle.strips.specs.declared.list.FactList.{FactList}
 use Rattle.strips.specs.declared.action.Action.{Action}
 use Rattle.strips.specs.declared.task.Task.{Task}
 use Rattle.strips.specs.Lists.{listed}
-use Rattle.strips.specs.Standing.{standing, Covers}
+use Rattle.strips.specs.Members.{Covers}
+use Rattle.strips.specs.Standing.{standing}
 use Rattle.strips.specs.Actions.{action-of}
 use Rattle.strips.specs.Fitting.{below, fits, all-fit}
 use Rattle.strips.specs.declared.fault.TaskFault.the-variants.{NoFacts, TooManyActions, InAction, InGoal, InStart}

@@ -1,0 +1,2 @@
+// The faults of a task text, in layers.
+pub mod fault;
