@@ -17,7 +17,6 @@ use Rattle.textspec.specs.declared.due.Due.the-variants.{Head, Action, Goal, St
 use Rattle.textspec.specs.Refusals.{refusal}
 use Rattle.model.specs.Strips.{Action as Act}
 use Rattle.textspec.specs.Frames.{head-frame, action-frame, goal-frame, start-frame, end-frame}
-use Rattle.textspec.proofs.Shapes.{passed}
 use Rattle.textspec.specs.Order.{due-at, due-after}
 use Rattle.tasktext.specs.Stage.{in-order, before}
 
@@ -112,14 +111,6 @@ module _ (f w : ℕ) (acts : List Act) (goal start : List ℕ) where
       ap (λ x. head-frame f w ∷ (map action-frame acts ++ goal-frame goal ∷ start-frame start ∷ x ∷ [])) (sym e)
       ∙ sym (ap (λ x. head-frame f w ∷ x) (append-assoc (map action-frame acts) (goal-frame goal ∷ start-frame start ∷ []) (b ∷ [])))
       ∙ ap (λ x. before x f w acts goal start ++ b ∷ []) (sym d)
-
-pub end-is : (b : List ℕ) → refusal End b ≡ None → b ≡ end-frame
-end-is b r = shape b (eqb-true _ _ (not-false _ (passed End b r .kind))) (eqb-true _ _ (passed End b r .size))
- where
-  shape : (b : List ℕ) → getD b 0 0 ≡ 5 → length b ≡ 1 → b ≡ end-frame
-  shape [] h l = absurd (omega arith)
-  shape (x ∷ []) h l = ap (λ y. y ∷ []) h
-  shape (x ∷ y ∷ ys) h l = absurd (omega arith)
 
 pub order-next : (f w n : ℕ) → 0 < f → w ≤ 512 → n ≤ w → in-order (cond (eqb n w) (Goal f) (Action f)) f w n ≡ true
 order-next f w n a b c =

@@ -9,3 +9,7 @@ pub mod Accepts
 pub mod Complete
 pub mod Same
 pub mod Theorems
+pub mod Decide
+pub mod Cut
+pub mod Whole
+pub mod Each

@@ -169,3 +169,11 @@ head-is (x0 ∷ x1 ∷ x2 ∷ x3 ∷ []) h l m =
     let p = h .bound 1 (omega arith) in
     let q = h .bound 2 (omega arith) in
     (cc, grind (arith, tells), grind (arith, tells))
+
+pub end-is : (b : List ℕ) → refusal End b ≡ None → b ≡ 5 ∷ []
+end-is b r = shape b (eqb-true _ _ (not-false _ (passed End b r .kind))) (eqb-true _ _ (passed End b r .size))
+ where
+  shape : (b : List ℕ) → getD b 0 0 ≡ 5 → length b ≡ 1 → b ≡ 5 ∷ []
+  shape [] h l = absurd (omega arith)
+  shape (x ∷ []) h l = ap (λ y. y ∷ []) h
+  shape (x ∷ y ∷ ys) h l = absurd (omega arith)

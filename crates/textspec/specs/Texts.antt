@@ -5,7 +5,7 @@
 --   In-turn      each frame is due in its turn and has no fault
 --   Line-fault   the first fault of the line that comes after these frames
 --   Faulty       the first fault of a text
---   One-problem .. Each-accepted   the four theorems about these
+--   One-problem .. Stated-or-faulty   the five theorems about these
 use Prim.Native.Nat.{ℕ, _+_, _<_}
 use mathlib.Core.Path.{_≡_}
 use mathlib.Core.Logic.{_⊎_}
@@ -88,3 +88,7 @@ Not-both = (text : List ℕ) (p : Problem) (f : Fault) → States text p → Fau
 -- every lawful problem has a text, which states it and has no fault
 abbrev pub Each-accepted : Type 0
 Each-accepted = (p : Problem) → Lawful p → States (text-of p) p × ((f : Fault) → Faulty (text-of p) f → ⊥)
+
+-- every text states a problem or has a first fault
+abbrev pub Stated-or-faulty : Type 0
+Stated-or-faulty = (text : List ℕ) → ((p : Problem) × States text p) ⊎ ((f : Fault) × Faulty text f)

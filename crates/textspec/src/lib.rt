@@ -1,7 +1,7 @@
 // The task text: its definitions in specs/, its theorems in proofs/, each theorem named by a function's contract.
 pub mod due;
 
-ghost use Rattle.textspec.specs.Texts.{One-problem, One-fault, Not-both, Each-accepted};
+ghost use Rattle.textspec.specs.Texts.{One-problem, One-fault, Not-both, Each-accepted, Stated-or-faulty};
 
 // A text states at most one problem.
 pub fn one_problem() -> u8
@@ -27,6 +27,13 @@ pub fn not_both() -> u8
 // Every lawful problem has a text, which states it and has no fault.
 pub fn each_accepted() -> u8
     ensures { λ _. ⌜ Each-accepted ⌝ }
+{
+    0
+}
+
+// Every text states a problem or has a first fault.
+pub fn stated_or_faulty() -> u8
+    ensures { λ _. ⌜ Stated-or-faulty ⌝ }
 {
     0
 }

@@ -10,7 +10,7 @@ use Rattle.textspec.specs.Hex.{line-of}
 use Rattle.textspec.specs.Texts.{Begins, In-turn}
 use Rattle.hexline.specs.Lines.{left}
 use Rattle.tasktext.specs.Loads.{taken}
-use Rattle.tasktext.proofs.Steps.{begins-more, shorter}
+use Rattle.tasktext.proofs.Steps.{begins-more, less-left}
 use Rattle.tasktext.proofs.Ends.{at-line, at-end, stated}
 use Rattle.tasktext.proofs.text.read_into.Needs as need
 
@@ -26,7 +26,7 @@ pub loop-reader-again : need.loop-reader-again
 loop-reader-again c = begins-more _ _ (c .args .text .now) _ _ (c .in-rest .ensures tt) (c .loop-reader .inv)
 
 pub loop-reader-less : need.loop-reader-less
-loop-reader-less c = shorter _ _ (c .args .text .now) _ _ (c .in-rest .ensures tt)
+loop-reader-less c = less-left _ _ (c .args .text .now) _ _ (c .in-rest .ensures tt)
 
 pub returns-in-Err : need.returns-in-Err
 returns-in-Err c =

@@ -1,7 +1,8 @@
 use Rattle.strips.specs.Lists.{listed}
 use Rattle.hexline.specs.Lines.{bytes-of}
 use Rattle.tasktext.specs.Loads.{acts-of}
-use Rattle.tasktext.proofs.Stages.{step-end, end-is}
+use Rattle.textspec.proofs.Shapes.{end-is}
+use Rattle.tasktext.proofs.Stages.{step-end}
 use Rattle.tasktext.proofs.load.Load.put_end.Needs as need
 
 pub returns : need.returns
