@@ -1,7 +1,7 @@
 -- How the reading of a text ends.
 use Prim.Native.Nat.{ℕ, _<_, _+_}
-use mathlib.Core.Path.{_≡_, sym, ap, _∙_, subst, refl}
-use mathlib.Core.List.{List, _++_, []}
+use mathlib.Core.Path.{sym, ap, _∙_, subst, refl}
+use mathlib.Core.List.{List, []}
 use mathlib.Core.Logic.{inl, inr}
 use lib.ListN.{length}
 use Rattle.std.specs.Joined.{joined}

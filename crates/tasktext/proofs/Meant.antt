@@ -1,8 +1,8 @@
 -- What a load holds, as the frames that it has taken.
-use Prim.Native.Nat.{ℕ, _+_, _<_, _≤_}
+use Prim.Native.Nat.{_≤_}
 use mathlib.Core.Path.{_≡_, ap, sym, _∙_, refl, subst}
 use mathlib.Core.Bool.{true}
-use mathlib.Core.List.{List, [], _∷_, _++_, map}
+use mathlib.Core.List.{[], _∷_, _++_, map}
 use native.Mathlib.Omega.{arith}
 use lib.Dec.{eqb}
 use lib.ListN.{length}
@@ -10,7 +10,7 @@ use Rattle.std.specs.Of.Vec.{vec-len, vec-items}
 use Rattle.std.proofs.shelf.Lists.{length-map, nil-from-length}
 use Rattle.std.proofs.shelf.Tests.{and-from, eq-eqb, eqb-true}
 use Rattle.textspec.specs.declared.due.Due.{Due}
-use Rattle.textspec.specs.declared.due.Due.the-variants.{Head, Action, Goal, Start, End, Nothing}
+use Rattle.textspec.specs.declared.due.Due.the-variants.{Head, Nothing}
 use Rattle.strips.specs.Lists.{listed}
 use Rattle.strips.specs.Actions.{action-of}
 use Rattle.textspec.specs.Frames.{frames-of, head-frame, action-frame, goal-frame, start-frame, end-frame}

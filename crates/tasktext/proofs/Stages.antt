@@ -1,20 +1,18 @@
 -- The stages of a load, one frame after another.
-use Prim.Native.Nat.{ℕ, zero, suc, _+_, _-_, _*_, _/_, _%_, _<_, _≤_}
+use Prim.Native.Nat.{ℕ, _+_, _*_, _/_, _%_, _<_, _≤_}
 use mathlib.Core.Path.{_≡_, ap, sym, _∙_, refl, subst}
-use mathlib.Core.Bool.{Bool, true, false, cond, not, _&&_, _||_}
-use mathlib.Core.Logic.{_≢_, ⊎-elim}
+use mathlib.Core.Bool.{Bool, true, false, cond, _&&_}
+use mathlib.Core.Logic.{⊎-elim}
 use mathlib.Core.List.{List, [], _∷_, _++_, map, append-assoc}
 use native.Mathlib.Omega.{arith}
 use lib.Dec.{leb, ltb, eqb}
-use lib.ListN.{length, getD, length-append}
+use lib.ListN.{length, length-append}
 use Rattle.std.proofs.shelf.Lists.{length-map, map-push}
-use Rattle.std.proofs.shelf.Tests.{and-parts, and-from, leb-true, ltb-true, eqb-true, not-false, lt-ltb, le-ltb, ne-eqb, eq-eqb, cond-true, cond-false, cases-bool}
+use Rattle.std.proofs.shelf.Tests.{and-parts, and-from, leb-true, ltb-true, eqb-true, lt-ltb, le-ltb, ne-eqb, eq-eqb, cond-true, cond-false, cases-bool}
 use Rattle.std.proofs.shelf.Ways.{tells}
 use Rattle.std.specs.shelf.Lawful.{all-pass}
-use Rattle.std.specs.declared.option.Option.the-variants.{Some, None}
 use Rattle.textspec.specs.declared.due.Due.{Due}
 use Rattle.textspec.specs.declared.due.Due.the-variants.{Head, Action, Goal, Start, End, Nothing}
-use Rattle.textspec.specs.Refusals.{refusal}
 use Rattle.model.specs.Strips.{Action as Act}
 use Rattle.textspec.specs.Frames.{head-frame, action-frame, goal-frame, start-frame, end-frame}
 use Rattle.textspec.specs.Order.{due-at, due-after}

@@ -3,7 +3,7 @@
 --   in-order   the parts of a load fit the frame that is due
 --   before     the frames that were taken before this one was due
 use Prim.Native.Nat.{ℕ}
-use mathlib.Core.Bool.{Bool, true, _&&_}
+use mathlib.Core.Bool.{Bool, _&&_}
 use mathlib.Core.List.{List, [], _∷_, _++_, map}
 use lib.Dec.{ltb, leb, eqb}
 use Rattle.model.specs.Strips.{Action as Means}

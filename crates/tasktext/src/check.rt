@@ -1,8 +1,8 @@
 // Which test a frame fails first.
 ghost use mathlib.Core.Path.{_≡_};
-ghost use mathlib.Core.Bool.{true, false, not};
-ghost use Prim.Native.Nat.{ℕ, _+_, _-_, _*_, _<_, _≤_};
-ghost use lib.ListN.{length, getD};
+ghost use mathlib.Core.Bool.{true, false};
+ghost use Prim.Native.Nat.{_+_, _-_, _*_, _<_};
+ghost use lib.ListN.{length};
 ghost use Rattle.hexline.specs.Lines.{Sound, bytes-of};
 ghost use Rattle.textspec.specs.Refusals.{not-due, whole, out-of-bounds, follows, not-rising};
 ghost use Rattle.tasktext.specs.Framing.{Checked};

@@ -1,18 +1,18 @@
 -- Each frame of a lawful problem passes every test.
 use Prim.Native.Nat.{ℕ, zero, suc, _+_, _-_, _*_, _/_, _%_, _<_, _≤_}
-use mathlib.Core.Path.{_≡_, ap, sym, _∙_, refl, subst}
-use mathlib.Core.Bool.{Bool, true, false, not, _&&_, _||_}
+use mathlib.Core.Path.{_≡_, ap, refl}
+use mathlib.Core.Bool.{true, false, not, _&&_}
 use mathlib.Core.Logic.{_≢_, ⊎-elim}
-use mathlib.Core.List.{List, [], _∷_, _++_}
+use mathlib.Core.List.{List, _∷_, _++_}
 use native.Mathlib.Omega.{arith}
 use lib.Dec.{leb, ltb, eqb}
 use lib.ListN.{length, getD, length-append}
-use Rattle.std.specs.declared.option.Option.the-variants.{Some, None}
+use Rattle.std.specs.declared.option.Option.the-variants.{None}
 use Rattle.std.proofs.shelf.Tests.{cases-lt, cases-bool, and-parts, and-from, and-left, and-right, or-from, le-ltb, lt-leb, le-leb, eq-eqb, eqb-false, not-true, ne-eqb}
 use Rattle.std.proofs.shelf.Lists.{getD-append-left}
 use Rattle.model.specs.Strips.{Action as Act, Listed, Fits}
 use Rattle.textspec.specs.declared.due.Due.{Due}
-use Rattle.textspec.specs.declared.due.Due.the-variants.{Head, Action, Goal, Start, End, Nothing}
+use Rattle.textspec.specs.declared.due.Due.the-variants.{Head, Action, Goal, Start}
 use Rattle.textspec.specs.Hex.{Sized}
 use Rattle.textspec.specs.Frames.{head-frame, action-frame, goal-frame, start-frame, end-frame}
 use Rattle.textspec.specs.Refusals.{not-due, out-of-bounds, follows, not-rising, whole, refusal}

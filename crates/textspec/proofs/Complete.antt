@@ -1,18 +1,17 @@
 -- The frames of a lawful problem are accepted in turn.
-use Prim.Native.Nat.{ℕ, zero, suc, _+_, _*_, _/_, _%_, _<_, _≤_}
-use mathlib.Core.Path.{_≡_, ap, sym, _∙_, refl, subst}
-use mathlib.Core.Bool.{cond}
+use Prim.Native.Nat.{ℕ, _+_, _*_, _/_, _%_, _<_, _≤_}
+use mathlib.Core.Path.{_≡_, ap, _∙_, refl}
 use mathlib.Core.List.{List, [], _∷_, _++_, map}
 use native.Mathlib.Omega.{arith}
 use lib.Dec.{ltb, eqb}
 use lib.ListN.{length, length-append}
 use Rattle.std.specs.shelf.Lists.{All as Every}
-use Rattle.std.specs.declared.option.Option.the-variants.{Some, None}
+use Rattle.std.specs.declared.option.Option.the-variants.{None}
 use Rattle.std.proofs.shelf.Tests.{lt-ltb, le-ltb, eq-eqb, ne-eqb, cond-true, cond-false}
 use Rattle.std.proofs.shelf.Lists.{length-push, length-map}
 use Rattle.model.specs.Strips.{Action as Act, Problem, Listed, Fits, Lawful}
 use Rattle.textspec.specs.declared.due.Due.{Due}
-use Rattle.textspec.specs.declared.due.Due.the-variants.{Head, Action, Goal, Start, End, Nothing}
+use Rattle.textspec.specs.declared.due.Due.the-variants.{Action, Goal, Start, End, Nothing}
 use Rattle.textspec.specs.Frames.{head-frame, action-frame, goal-frame, start-frame, end-frame, frames-of}
 use Rattle.textspec.specs.Refusals.{refusal}
 use Rattle.textspec.specs.Order.{due-at, due-after}

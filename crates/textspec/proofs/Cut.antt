@@ -1,10 +1,10 @@
 -- Accepted frames, cut into the lists of a lawful problem.
-use Prim.Native.Nat.{ℕ, zero, suc, _+_, _-_, _<_, _≤_}
-use mathlib.Core.Path.{_≡_, ap, sym, _∙_, refl, subst}
+use Prim.Native.Nat.{ℕ, suc, _+_, _-_, _<_, _≤_}
+use mathlib.Core.Path.{_≡_, ap, _∙_, refl, subst}
 use mathlib.Core.Bool.{true}
 use mathlib.Core.List.{List, [], _∷_}
 use native.Mathlib.Omega.{arith}
-use lib.Dec.{ltb, eqb}
+use lib.Dec.{ltb}
 use lib.ListN.{length, getD, take, drop, length-drop}
 use lib.Seq.{getD-drop, getD-take}
 use Rattle.std.specs.shelf.Lists.{All as Every}
@@ -16,7 +16,7 @@ use Rattle.textspec.specs.declared.due.Due.the-variants.{Action, Goal, Start}
 use Rattle.textspec.specs.Frames.{action-frame, goal-frame, start-frame}
 use Rattle.textspec.specs.Refusals.{refusal}
 use Rattle.textspec.proofs.Refused.{action-whole}
-use Rattle.textspec.proofs.Shapes.{under, Listing, Passed, passed, part-rising, part-under, action-count, action-is, list-goal, list-start, list-is, rest-under}
+use Rattle.textspec.proofs.Shapes.{under, Listing, passed, part-rising, part-under, action-count, action-is, list-goal, list-start, list-is, rest-under}
 
 rising-from : (l : List ℕ) → ((k : ℕ) → k + 1 < length l → getD l k 0 < getD l (k + 1) 0) → Rising l
 rising-from [] h = tt

@@ -15,8 +15,8 @@ use Rattle.textspec.specs.declared.due.Due.the-variants.{Head, Action, Goal, S
 use Rattle.textspec.specs.Hex.{hex, line-of, Sized, Line-is, First-fault}
 use Rattle.textspec.specs.Refusals.{Refusal, refusal}
 use Rattle.textspec.specs.Order.{due-after}
-use Rattle.textspec.specs.Texts.{States, Fault, In-turn, Begins, Line-fault, At-line, At-end, Faulty, Stated-or-faulty}
-use Rattle.textspec.proofs.Decide.{A-line, A-fault, decide}
+use Rattle.textspec.specs.Texts.{States, Fault, In-turn, Begins, Line-fault, Faulty, Stated-or-faulty}
+use Rattle.textspec.proofs.Decide.{decide}
 use Rattle.textspec.proofs.Whole.{whole}
 
 turn-more : (pre frames : List (List ℕ)) (b : List ℕ) → In-turn pre frames → Sized b → refusal (due-after (pre ++ frames)) b ≡ None → In-turn pre (frames ++ b ∷ [])

@@ -1,11 +1,11 @@
 -- A line states one list of bytes or has one first fault.
 use Prim.Native.Nat.{ℕ, zero, suc, _+_, _-_, _*_, _/_, _%_, _<_, _≤_}
-use mathlib.Core.Path.{_≡_, ap, sym, _∙_, refl, subst}
-use mathlib.Core.Bool.{Bool, true, false, cond, _&&_, _||_}
+use mathlib.Core.Path.{_≡_, ap, sym, _∙_, refl}
+use mathlib.Core.Bool.{true, cond, _||_}
 use mathlib.Core.Logic.{⊎-elim}
 use mathlib.Core.List.{List, [], _∷_, _++_}
 use native.Mathlib.Omega.{arith}
-use lib.Dec.{leb, ltb, eqb}
+use lib.Dec.{leb, eqb}
 use lib.ListN.{length, getD, length-append}
 use Rattle.std.proofs.shelf.Tests.{cases-lt, false≢true}
 use Rattle.std.proofs.shelf.Lists.{getD-append-left, getD-at}

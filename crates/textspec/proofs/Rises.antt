@@ -1,5 +1,5 @@
 -- Lists of a lawful problem, by place.
-use Prim.Native.Nat.{ℕ, zero, suc, _+_, _-_, _<_, _≤_}
+use Prim.Native.Nat.{ℕ, zero, suc, _+_, _-_, _<_}
 use mathlib.Core.Path.{_≡_, ap, sym, _∙_, refl, subst}
 use mathlib.Core.Logic.{⊎-elim}
 use mathlib.Core.List.{List, [], _∷_, _++_}
@@ -8,7 +8,7 @@ use lib.ListN.{length, getD, length-append}
 use Rattle.std.specs.shelf.Lists.{All as Every}
 use Rattle.std.proofs.shelf.Tests.{cases-lt}
 use Rattle.std.proofs.shelf.Lists.{getD-append-left, getD-append-right, getD-past}
-use Rattle.model.specs.Strips.{Rising, Listed}
+use Rattle.model.specs.Strips.{Rising}
 
 pub rises : (l : List ℕ) → Rising l → (k : ℕ) → k + 1 < length l → getD l k 0 < getD l (k + 1) 0
 rises [] r k h = absurd (omega arith)

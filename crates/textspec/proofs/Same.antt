@@ -1,11 +1,11 @@
 -- Frames state one problem.
-use Prim.Native.Nat.{ℕ, zero, suc, _+_, _/_, _%_, _<_, _≤_}
-use mathlib.Core.Path.{_≡_, ap, sym, _∙_, refl, subst}
+use Prim.Native.Nat.{ℕ, _/_, _%_}
+use mathlib.Core.Path.{_≡_, refl}
 use mathlib.Core.List.{List, [], _∷_, _++_, map}
 use native.Mathlib.Omega.{arith}
 use lib.ListN.{length}
 use Rattle.model.specs.Strips.{Action as Act, Problem}
-use Rattle.textspec.specs.Frames.{head-frame, action-frame, goal-frame, start-frame, end-frame, frames-of}
+use Rattle.textspec.specs.Frames.{action-frame, goal-frame, start-frame, end-frame, frames-of}
 
 -- lists in a row, the first of equal length, are equal part by part
 append-same : (xs xs′ ys ys′ : List ℕ) → length xs ≡ length xs′ → xs ++ ys ≡ xs′ ++ ys′ → (xs ≡ xs′) × (ys ≡ ys′)

@@ -1,24 +1,23 @@
 -- What an accepted frame looks like.
 use Prim.Native.Nat.{ℕ, zero, suc, _+_, _-_, _*_, _/_, _%_, _<_, _≤_}
 use mathlib.Core.Path.{_≡_, ap, sym, _∙_, refl, subst}
-use mathlib.Core.Bool.{Bool, true, false, cond, not, _&&_, _||_}
-use mathlib.Core.Logic.{_≢_, ⊎-elim}
+use mathlib.Core.Bool.{Bool, true, false, cond, not, _&&_}
+use mathlib.Core.Logic.{_≢_}
 use mathlib.Core.List.{List, [], _∷_, _++_}
 use native.Mathlib.Omega.{arith}
 use lib.Dec.{leb, ltb, eqb}
-use lib.ListN.{length, getD, take, drop, length-take, length-drop}
+use lib.ListN.{length, getD, take, drop, length-drop}
 use lib.Seq.{getD-drop, getD-take}
 use Rattle.std.specs.shelf.Lawful.{all-pass}
 use Rattle.std.specs.declared.option.Option.{Option}
 use Rattle.std.specs.declared.option.Option.the-variants.{Some, None}
 use Rattle.std.proofs.shelf.Lists.{take-append-drop, take-all, drop-drop, length-take-le}
-use Rattle.std.proofs.shelf.Tests.{and-parts, and-from, and-left, leb-true, leb-false, eqb-true, not-false, lt-ltb, ne-eqb, or-parts, le-leb, cases-bool, both-ways}
+use Rattle.std.proofs.shelf.Tests.{and-parts, and-from, leb-true, leb-false, eqb-true, not-false, lt-ltb, ne-eqb, or-parts, le-leb}
 use Rattle.std.proofs.shelf.Ways.{tells}
 use Rattle.textspec.specs.First.{first}
 use Rattle.textspec.specs.declared.due.Due.{Due}
-use Rattle.textspec.specs.declared.due.Due.the-variants.{Head, Action, Goal, Start, End, Nothing}
+use Rattle.textspec.specs.declared.due.Due.the-variants.{Head, Action, Goal, Start, End}
 use Rattle.textspec.specs.Refusals.{Refusal, not-due, whole, out-of-bounds, follows, not-rising, first-refused, refusal}
-use Rattle.model.specs.Strips.{Action as Act}
 use Rattle.textspec.specs.Frames.{action-frame, head-frame}
 use Rattle.textspec.proofs.Firsts.{first-none-at}
 use Rattle.textspec.proofs.Refused.{action-whole}

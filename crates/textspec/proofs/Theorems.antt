@@ -1,18 +1,15 @@
 -- The theorems about texts.
-use Prim.Native.Nat.{ℕ, _+_, _<_}
+use Prim.Native.Nat.{ℕ, _+_}
 use mathlib.Core.Path.{_≡_, ap, sym, _∙_, refl, subst}
-use mathlib.Core.Logic.{_⊎_, inl, inr, ⊎-elim}
-use mathlib.Core.List.{List, [], _∷_, _++_}
+use mathlib.Core.Logic.{inl, inr, ⊎-elim}
+use mathlib.Core.List.{List, []}
 use native.Mathlib.Omega.{arith}
 use lib.ListN.{length}
-use Rattle.std.specs.Joined.{joined}
 use Rattle.std.proofs.shelf.Lists.{append-nil}
-use Rattle.model.specs.Strips.{Problem, Lawful}
-use Rattle.textspec.specs.declared.due.Due.the-variants.{Nothing}
-use Rattle.textspec.specs.Hex.{line-of}
+use Rattle.model.specs.Strips.{Problem}
 use Rattle.textspec.specs.Frames.{frames-of, text-of}
 use Rattle.textspec.specs.Order.{due-after}
-use Rattle.textspec.specs.Texts.{States, Fault, Begins, Line-fault, At-line, At-end, Faulty, One-problem, One-fault, Not-both, Each-accepted}
+use Rattle.textspec.specs.Texts.{States, Fault, Begins, Line-fault, One-problem, One-fault, Not-both, Each-accepted}
 use Rattle.textspec.proofs.Walk.{Next, none-here, walk, why-once, why-not}
 use Rattle.textspec.proofs.Complete.{frames-turn, frames-due}
 use Rattle.textspec.proofs.Same.{problem-same}

@@ -5,7 +5,7 @@ use mathlib.Core.List.{List, [], _∷_, _++_, map, append-assoc}
 use native.Mathlib.Omega.{arith}
 use lib.ListN.{length, getD, length-append}
 use Rattle.std.specs.shelf.Lists.{All as Every}
-use Rattle.std.specs.declared.option.Option.the-variants.{Some, None}
+use Rattle.std.specs.declared.option.Option.the-variants.{None}
 use Rattle.std.proofs.shelf.Lists.{append-nil, length-push, length-map}
 use Rattle.model.specs.Strips.{Action as Act, Problem, Listed, Fits, Lawful}
 use Rattle.textspec.specs.declared.due.Due.{Due}
@@ -16,7 +16,7 @@ use Rattle.textspec.specs.Order.{due-at, due-after}
 use Rattle.textspec.specs.Texts.{In-turn}
 use Rattle.textspec.proofs.Shapes.{passed, head-is, end-is}
 use Rattle.textspec.proofs.Complete.{due-head, at-action, at-goal, at-start, at-end, at-nothing}
-use Rattle.textspec.proofs.Cut.{Action-of, cut-action, List-of, cut-goal, cut-start}
+use Rattle.textspec.proofs.Cut.{cut-action, cut-goal, cut-start}
 
 action-not : (n : ℕ) (d : Due) → d ≡ Action n → d ≡ Nothing → ⊥
 action-not n d a b = let z : _≡_ {A = ℕ} 0 1 = cc in omega arith

@@ -1,6 +1,5 @@
-use Prim.Native.Nat.{ℕ, _*_, _+_, _<_}
-use mathlib.Core.Path.{sym, ap, _≡_, _∙_, subst}
-use mathlib.Core.Bool.{true}
+use Prim.Native.Nat.{_*_, _+_}
+use mathlib.Core.Path.{ap, _∙_}
 use native.Mathlib.Omega.{arith}
 use lib.ListN.{length, getD}
 use Rattle.textspec.specs.Hex.{is-digit, value}

@@ -1,9 +1,8 @@
-use borrow.Author.Needs.{needs}
-use mathlib.Core.Path.{_≡_, sym, ap, _∙_}
+use mathlib.Core.Path.{sym}
 use native.Mathlib.Omega.{arith}
 use lib.ListN.{length}
 use Rattle.hexline.specs.Lines.{bytes-of}
-use Rattle.textspec.specs.Refusals.{not-due, whole, out-of-bounds, not-rising}
+use Rattle.textspec.specs.Refusals.{out-of-bounds, not-rising}
 use Rattle.textspec.proofs.Firsts.{first-none, first-some}
 use Rattle.textspec.proofs.Refused.{refused-5, refused-6, accepted}
 use Rattle.tasktext.proofs.check.check.Needs as need

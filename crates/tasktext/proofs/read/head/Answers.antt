@@ -1,4 +1,3 @@
-use mathlib.Core.Path.{_≡_, sym, ap, _∙_}
 use native.Mathlib.Omega.{arith}
 use Rattle.hexline.specs.Lines.{bytes-of}
 use Rattle.textspec.specs.declared.due.Due.the-variants.{Head}

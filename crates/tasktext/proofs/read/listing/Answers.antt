@@ -1,8 +1,7 @@
-use borrow.Author.Needs.{needs}
-use Prim.Native.Nat.{ℕ, _+_, _-_, _<_, _≤_}
-use mathlib.Core.Path.{_≡_, sym, ap, _∙_, subst}
+use Prim.Native.Nat.{_+_, _-_, _<_}
+use mathlib.Core.Path.{_≡_, _∙_, subst}
 use native.Mathlib.Omega.{arith}
-use lib.ListN.{length, take, drop, length-drop, getD}
+use lib.ListN.{drop, length-drop, getD}
 use Rattle.std.proofs.shelf.Lists.{take-all}
 use Rattle.hexline.specs.Lines.{bytes-of}
 use Rattle.textspec.proofs.Hexes.{length-bytes}

@@ -1,4 +1,4 @@
-use mathlib.Core.Path.{_≡_, sym, ap, _∙_, refl}
+use mathlib.Core.Path.{_∙_, refl}
 use mathlib.Core.Logic.{inl, inr}
 use Rattle.std.proofs.shelf.Results.{err-from-errBy}
 use Rattle.hexline.specs.Lines.{bytes-of}

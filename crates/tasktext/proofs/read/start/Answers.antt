@@ -1,4 +1,4 @@
-use mathlib.Core.Path.{_≡_, sym, ap, _∙_}
+use mathlib.Core.Path.{ap, _∙_}
 use Rattle.std.proofs.shelf.Tests.{eqb-true, not-false}
 use Rattle.hexline.specs.Lines.{bytes-of}
 use Rattle.textspec.specs.declared.due.Due.the-variants.{Start}

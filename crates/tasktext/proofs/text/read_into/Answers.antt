@@ -1,5 +1,5 @@
-use Prim.Native.Nat.{ℕ, _<_, _+_}
-use mathlib.Core.Path.{_≡_, sym, ap, _∙_, subst, refl}
+use Prim.Native.Nat.{_<_}
+use mathlib.Core.Path.{_≡_, sym, ap, _∙_, subst}
 use mathlib.Core.List.{_++_, []}
 use native.Mathlib.Omega.{arith}
 use lib.ListN.{length}

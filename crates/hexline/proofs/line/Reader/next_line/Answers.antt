@@ -1,5 +1,4 @@
-use borrow.Author.Needs.{needs}
-use Prim.Native.Nat.{ℕ, _-_, _<_, _+_, _%_, _≤_}
+use Prim.Native.Nat.{_-_, _+_, _%_, _≤_}
 use mathlib.Core.Path.{sym, _≡_, ap, _∙_, refl}
 use mathlib.Core.Bool.{true}
 use mathlib.Core.List.{_++_, _∷_}

@@ -1,6 +1,5 @@
 use native.Mathlib.Omega.{arith}
-use mathlib.Core.Path.{sym, ap, _∙_}
-use Rattle.textspec.specs.declared.due.Due.the-variants.{Head, Action, Goal, Start, End, Nothing}
+use Rattle.textspec.specs.declared.due.Due.the-variants.{Action, Goal, Start, End, Nothing}
 use Rattle.tasktext.proofs.Meant.{number, small}
 use Rattle.tasktext.proofs.load.Load.accepted.Needs as need
 

@@ -1,12 +1,6 @@
-use Prim.Native.Nat.{ℕ, _+_, _≤_, _<_}
-use mathlib.Core.Path.{_≡_, refl, ap, sym, _∙_}
-use native.Mathlib.Omega.{arith}
-use lib.ListN.{length}
-use Rattle.std.specs.Of.Vec.{vec-items}
-use Rattle.std.specs.declared.option.Option.the-variants.{Some, None}
+use Prim.Native.Nat.{_+_}
+use mathlib.Core.Path.{refl, ap, sym, _∙_}
 use Rattle.textspec.specs.Frames.{frames-of}
-use Rattle.strips.specs.Lists.{listed}
-use Rattle.strips.specs.Tasks.{flaw}
 use Rattle.strips.proofs.Keeping.{lawful}
 use Rattle.textfault.specs.declared.fault.LoadFault.the-variants.{Early}
 use Rattle.tasktext.proofs.Flawless.{clash}

@@ -1,13 +1,11 @@
 use mathlib.Core.Path.{_≡_, sym, ap, _∙_, subst}
 use mathlib.Core.Bool.{true}
 use Rattle.std.specs.Of.Vec.{vec-len}
-use Rattle.std.proofs.shelf.Tests.{and-parts}
 use lib.Dec.{eqb}
 use Rattle.strips.specs.Lists.{listed}
 use Rattle.strips.specs.Fitting.{below}
 use Rattle.tasktext.specs.Stage.{in-order}
-use Rattle.tasktext.specs.Loads.{acts-of}
-use Rattle.tasktext.proofs.Stages.{four, step-start}
+use Rattle.tasktext.proofs.Stages.{four}
 use Rattle.tasktext.proofs.load.Load.put_goal.Needs as need
 
 pub ghost-self : need.ghost-self

@@ -7,7 +7,7 @@ use lib.Dec.{eqb}
 use lib.ListN.{length}
 use Rattle.std.specs.Of.Vec.{vec-items, vec-len}
 use Rattle.hexline.specs.Lines.{bytes-of}
-use Rattle.textspec.specs.declared.due.Due.the-variants.{Head, Action, Goal}
+use Rattle.textspec.specs.declared.due.Due.the-variants.{Action, Goal}
 use Rattle.strips.specs.Lists.{listed}
 use Rattle.strips.specs.Actions.{action-of}
 use Rattle.strips.specs.Fitting.{below, all-fit}
@@ -15,7 +15,7 @@ use Rattle.textspec.specs.Frames.{head-frame, action-frame}
 use Rattle.tasktext.specs.Stage.{in-order, before}
 use Rattle.tasktext.specs.Loads.{acts-of}
 use Rattle.tasktext.proofs.Stages.{order-next, before-next}
-use Rattle.tasktext.proofs.Meant.{none-yet, size}
+use Rattle.tasktext.proofs.Meant.{none-yet}
 use Rattle.tasktext.proofs.load.Load.put_head.Needs as need
 
 pub ghost-self : need.ghost-self

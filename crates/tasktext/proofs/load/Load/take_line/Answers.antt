@@ -1,5 +1,5 @@
 use Prim.Native.Nat.{_+_}
-use mathlib.Core.Path.{_≡_, sym, ap, _∙_, subst, refl}
+use mathlib.Core.Path.{sym, ap, _∙_, subst, refl}
 use mathlib.Core.Logic.{_⊎_}
 use Rattle.std.proofs.shelf.Results.{err-from-errBy}
 use Rattle.textspec.specs.Hex.{First-fault}
