@@ -20,8 +20,7 @@ pub returns-in-Ok : need.returns-in-Ok
 returns-in-Ok c =
     let l = c .args .self in
     let m = c .in-Ok .ensures tt .1 in
-    let f : c .in-Ok .task .facts ≡ l .facts = ap (λ p. p .facts) m in
-    (lawful (c .in-Ok .task) (omega arith), whole l (c .in-Nothing .is) ∙ ap frames-of (sym m))
+    (lawful (c .in-Ok .task), whole l (c .in-Nothing .is) ∙ ap frames-of (sym m))
 
 pub returns-in-rest : need.returns-in-rest
 returns-in-rest c =
