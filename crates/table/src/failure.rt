@@ -43,7 +43,10 @@ pub impl From<io::Error> for Failure as FailureFromIo {
 pub impl fmt::Display for Failure as FailureDisplay {
     fn fmt<W: fmt::Write>(&self, f: &mut fmt::Formatter<W>) -> fmt::Result {
         match self {
-            Failure::Arguments => write!(f, "the only argument is --help; the task text comes from standard input"),
+            Failure::Arguments => write!(
+                f,
+                "the only argument is --help; the task text comes from standard input"
+            ),
             Failure::Text(refusal) => write!(f, "{refusal}"),
             Failure::Memory => write!(f, "out of memory"),
             Failure::Io(e) => write!(f, "{e}"),

@@ -33,7 +33,12 @@ none for what is out of reach. A refused text is told on standard error, with
 the refusal's number, the line, the place and what is wrong; the status is
 then 1.";
 
-fn print_items(rt: &impl Print, facts: usize, sums: &[Figure], largest: &[Figure]) -> Result<(), Failure> {
+fn print_items(
+    rt: &impl Print,
+    facts: usize,
+    sums: &[Figure],
+    largest: &[Figure],
+) -> Result<(), Failure> {
     for (item, pair) in sums.iter().zip(largest.iter()).enumerate() {
         let additive = Words(*pair.0);
         let max = Words(*pair.1);

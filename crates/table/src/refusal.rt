@@ -20,14 +20,24 @@ pub struct Refusal {
 fn told(number: u8, place: Place, counts: &'static str, meaning: &'static str) -> Refusal
     ensures { λ r. ⌜ r .number ≡ number ⌝ ∗ ⌜ r .place ≡ place ⌝ }
 {
-    Refusal { number, place, counts, meaning }
+    Refusal {
+        number,
+        place,
+        counts,
+        meaning,
+    }
 }
 
 fn line_refusal(fault: LineFault) -> Refusal
     ensures { λ r. ⌜ Tells r (line-shown fault) ⌝ }
 {
     match fault {
-        LineFault::Digit(place) => told(1, place, "column", "a character that is no digit 0-9 or a-f, or the end of an odd or empty line"),
+        LineFault::Digit(place) => told(
+            1,
+            place,
+            "column",
+            "a character that is no digit 0-9 or a-f, or the end of an odd or empty line",
+        ),
         LineFault::Long(place) => told(2, place, "column", "more than 514 digits"),
         LineFault::Early(place) => told(7, place, "column", "the text ends inside the line"),
     }
@@ -38,8 +48,18 @@ fn frame_refusal(fault: FrameFault) -> Refusal
 {
     match fault {
         FrameFault::Line(inner) => line_refusal(inner),
-        FrameFault::NotDue(place) => told(3, place, "byte", "another kind of frame is due, or none"),
-        FrameFault::Length(place) => told(4, place, "byte count", "the length is not as the kind and the counts say"),
+        FrameFault::NotDue(place) => told(
+            3,
+            place,
+            "byte",
+            "another kind of frame is due, or none",
+        ),
+        FrameFault::Length(place) => told(
+            4,
+            place,
+            "byte count",
+            "the length is not as the kind and the counts say",
+        ),
         FrameFault::Bounds(place) => told(5, place, "byte", "a number out of bounds"),
         FrameFault::Rising(place) => told(6, place, "byte", "a list that does not rise"),
     }
