@@ -4,7 +4,7 @@ use lib.Dec.{ltb}
 use lib.ListN.{length, getD, set, replicate, length-replicate}
 use lib.Seq.{set-getD}
 use mathlib.Core.Path.{_≡_, refl, sym, ap, subst, _∙_}
-use mathlib.Core.Bool.{Bool, true, false}
+use mathlib.Core.Bool.{false}
 use mathlib.Core.List.{List}
 use native.Mathlib.Omega.{arith}
 use borrow.Author.Tests.{le-ltb}
@@ -18,7 +18,7 @@ use Rattle.std.specs.declared.option.Option.the-variants.{Some, None}
 use Rattle.queue.specs.Queues.{at, held}
 use Rattle.queue.proofs.Tables.{differ}
 use Rattle.heap_theory.specs.Heaps.{Shape, Paired, slot-key}
-use Rattle.heap.specs.declared.heap.HeapQueue.{HeapQueue}
+use Rattle.heap.specs.declared.store.HeapQueue.{HeapQueue}
 
 -- the shape that a heap's ghost fields say
 pub shape-of : {K : Type 0} (h : HeapQueue K) → Shape (vec-items (h .keys)) (vec-items (h .slots)) (vec-items (h .places)) (h .size)

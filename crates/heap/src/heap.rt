@@ -1,39 +1,22 @@
 // The heap as a queue. All its memory is got when it is made.
 ghost use mathlib.Core.Path.{_≡_};
 ghost use mathlib.Core.Bool.{not};
-ghost use Prim.Native.Nat.{ℕ, _<_, _≤_};
-ghost use lib.Dec.{ltb};
+ghost use Prim.Native.Nat.{ℕ, _<_};
 ghost use lib.ListN.{length, getD, set, replicate};
 ghost use Rattle.std.specs.Of.Vec.{vec-items};
 ghost use Rattle.std.specs.Options.{isSome};
 ghost use Rattle.std.specs.Vec.{made};
 ghost use Rattle.std.specs.declared.option.Option.the-variants.{Some, None};
-ghost use Rattle.queue.specs.Queues.{held as in-queue, vacant, Front, Smallest};
-ghost use Rattle.heap_theory.specs.Heaps.{slot-key, Ordered};
+ghost use Rattle.queue.specs.Queues.{held, vacant, Front, Smallest};
+ghost use Rattle.heap.specs.Meaning.{pairs-of, In-order};
 use crate::edits::remove;
 use crate::edits::store;
+pub use crate::store::HeapQueue;
 use queue::key::Key;
 use queue::queue::Queue;
 use queue::refusal::QueueRefusal;
 use std::alloc::AllocError;
 use std::alloc::Global;
-
-// Keys by item; items by slot, every item in one slot, those that are held first; slots by item.
-#[derive(Drop)]
-pub struct HeapQueue<K: Key> {
-    keys: Vec<Option<K>>,
-    slots: Vec<usize>,
-    places: Vec<usize>,
-    size: usize,
-    ghost fits: { size ≤ length (vec-items keys) },
-    ghost slots_long: { length (vec-items slots) ≡ length (vec-items keys) },
-    ghost places_long: { length (vec-items places) ≡ length (vec-items keys) },
-    ghost slot_within: { (i : ℕ) → i < length (vec-items keys) → getD (vec-items slots) i 0 < length (vec-items keys) },
-    ghost slot_back: { (i : ℕ) → i < length (vec-items keys) → getD (vec-items places) (getD (vec-items slots) i 0) 0 ≡ i },
-    ghost place_within: { (j : ℕ) → j < length (vec-items keys) → getD (vec-items places) j 0 < length (vec-items keys) },
-    ghost place_back: { (j : ℕ) → j < length (vec-items keys) → getD (vec-items slots) (getD (vec-items places) j 0) 0 ≡ j },
-    ghost held: { (i : ℕ) → i < length (vec-items keys) → isSome (slot-key (vec-items keys) (vec-items slots) i) ≡ ltb i size },
-}
 
 // The numbers below `n`, in order.
 fn numbers(heap: Global, n: usize) -> Result<Vec<usize>, AllocError>
@@ -48,7 +31,7 @@ fn numbers(heap: Global, n: usize) -> Result<Vec<usize>, AllocError>
 
 // A heap of no items: each stands in the slot of its number.
 fn empty<K: Key>(heap: Global, capacity: usize) -> Result<HeapQueue<K>, AllocError>
-    ensures { λ r. ⌜ made r (λ q. (vec-items (q .keys) ≡ replicate capacity None) × (q .size ≡ 0)) ⌝ }
+    ensures { λ r. ⌜ made r (λ q. (pairs-of q ≡ replicate capacity None) × (q .size ≡ 0)) ⌝ }
 {
     let mut keys = Vec::new(heap);
     keys.resize(capacity, None)?;
@@ -64,7 +47,7 @@ fn empty<K: Key>(heap: Global, capacity: usize) -> Result<HeapQueue<K>, AllocErr
 
 impl<K: Key> HeapQueue<K> {
     fn contains(&self, item: usize) -> bool
-        ensures { λ r. ⌜ r ≡ in-queue (vec-items (now (self .entry) .keys)) item ⌝ }
+        ensures { λ r. ⌜ r ≡ held (pairs-of (now (self .entry))) item ⌝ }
     {
         if item < self.keys.len() {
             self.keys[item].is_some()
@@ -75,9 +58,9 @@ impl<K: Key> HeapQueue<K> {
 
     // The item in the first slot, with its key.
     fn root(&self) -> Option<(usize, K)>
-        ensures found { λ r. ⌜ Front (vec-items (now (self .entry) .keys)) r ⌝ }
-        ensures some { λ r. ⌜ vacant (vec-items (now (self .entry) .keys)) ≡ not (isSome r) ⌝ }
-        ensures least { λ r. ⌜ (Ordered (K·Key .leq) (vec-items (now (self .entry) .keys)) (vec-items (now (self .entry) .slots)) (now (self .entry) .size) → Smallest (K·Key .leq) (vec-items (now (self .entry) .keys)) r) ⌝ }
+        ensures found { λ r. ⌜ Front (pairs-of (now (self .entry))) r ⌝ }
+        ensures some { λ r. ⌜ vacant (pairs-of (now (self .entry))) ≡ not (isSome r) ⌝ }
+        ensures least { λ r. ⌜ (In-order (K·Key .leq) (now (self .entry)) → Smallest (K·Key .leq) (pairs-of (now (self .entry))) r) ⌝ }
     {
         if self.size == 0 {
             return None;
@@ -92,9 +75,9 @@ impl<K: Key> HeapQueue<K> {
 
     // Adds an item or gives it another key.
     fn insert(&mut self, item: usize, key: K)
-        requires { ⌜ item < length (vec-items (now self .keys)) ⌝ }
-        ensures after { λ _. ⌜ vec-items (now (self .exit) .keys) ≡ set (vec-items (now (self .entry) .keys)) item (Some key) ⌝ }
-        ensures order { λ _. ⌜ (Ordered (K·Key .leq) (vec-items (now (self .entry) .keys)) (vec-items (now (self .entry) .slots)) (now (self .entry) .size) → Ordered (K·Key .leq) (vec-items (now (self .exit) .keys)) (vec-items (now (self .exit) .slots)) (now (self .exit) .size)) ⌝ }
+        requires { ⌜ item < length (pairs-of (now self)) ⌝ }
+        ensures after { λ _. ⌜ pairs-of (now (self .exit)) ≡ set (pairs-of (now (self .entry))) item (Some key) ⌝ }
+        ensures order { λ _. ⌜ (In-order (K·Key .leq) (now (self .entry)) → In-order (K·Key .leq) (now (self .exit))) ⌝ }
     {
         self.size = store(
             &mut self.keys,
@@ -108,8 +91,8 @@ impl<K: Key> HeapQueue<K> {
 
     // Removes an item, if it is held.
     fn discard(&mut self, item: usize)
-        ensures after { λ _. ⌜ vec-items (now (self .exit) .keys) ≡ set (vec-items (now (self .entry) .keys)) item None ⌝ }
-        ensures order { λ _. ⌜ (Ordered (K·Key .leq) (vec-items (now (self .entry) .keys)) (vec-items (now (self .entry) .slots)) (now (self .entry) .size) → Ordered (K·Key .leq) (vec-items (now (self .exit) .keys)) (vec-items (now (self .exit) .slots)) (now (self .exit) .size)) ⌝ }
+        ensures after { λ _. ⌜ pairs-of (now (self .exit)) ≡ set (pairs-of (now (self .entry))) item None ⌝ }
+        ensures order { λ _. ⌜ (In-order (K·Key .leq) (now (self .entry)) → In-order (K·Key .leq) (now (self .exit))) ⌝ }
     {
         if self.contains(item) {
             remove(
@@ -127,10 +110,10 @@ impl<K: Key> HeapQueue<K> {
 pub impl<K: Key> Queue for HeapQueue<K> as HeapAsQueue {
     type Key = K;
 
-    ghost pairs = { λ q. vec-items (q .keys) };
+    ghost pairs = { pairs-of };
 
     // No child's key is below its parent's.
-    ghost sound = { λ q. Ordered (K·Key .leq) (vec-items (q .keys)) (vec-items (q .slots)) (q .size) };
+    ghost sound = { In-order (K·Key .leq) };
 
     fn new(heap: Global, capacity: usize) -> Result<HeapQueue<K>, AllocError> {
         empty(heap, capacity)

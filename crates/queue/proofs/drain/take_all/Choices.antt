@@ -1,6 +1,4 @@
 use Prim.Native.Nat.{_+_, _≤_}
-use lib.ListN.{length}
-use mathlib.Core.Path.{_≡_}
 use Rattle.std.specs.Of.Vec.{vec-items, vec-len, vec-cap}
 use Rattle.queue.specs.Queues.{count, Removes}
 use Rattle.queue.proofs.Drains.{Ahead}

@@ -1,7 +1,6 @@
 use mathlib.Core.Path.{refl}
-use native.Mathlib.Omega.{arith}
 use Rattle.strips.proofs.Keeping.{lawful}
 use Rattle.strips.proofs.tasks.facts_of.Needs as need
 
 pub returns : need.returns
-returns c = record { is = refl; lawful = lawful (c .args .task .now) (omega arith) }
+returns c = record { is = refl; lawful = lawful (c .args .task .now) }

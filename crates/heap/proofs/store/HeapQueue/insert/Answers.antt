@@ -1,11 +1,10 @@
-use mathlib.Core.Path.{_≡_, refl, ap, _∙_}
-use native.Mathlib.Omega.{arith}
+use mathlib.Core.Path.{ap, _∙_}
 use lib.ListN.{set}
 use Rattle.std.proofs.shelf.Lists.{refilled-is}
 use Rattle.std.specs.declared.option.Option.the-variants.{Some}
 use Rattle.heap_theory.specs.Heaps.{Shape, Ordered}
-use Rattle.heap.proofs.Stores.{of-same, of-refilled, owed, shape-of}
-use Rattle.heap.proofs.heap.HeapQueue.insert.Needs as need
+use Rattle.heap.proofs.Stores.{of-same, of-refilled, owed}
+use Rattle.heap.proofs.store.HeapQueue.insert.Needs as need
 
 pub ghost-self : need.ghost-self
 ghost-self g c =

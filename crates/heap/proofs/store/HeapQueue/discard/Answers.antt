@@ -1,7 +1,6 @@
 use Prim.Native.Nat.{_<_, _-_}
-use mathlib.Core.Path.{_≡_, refl, sym, ap, subst, _∙_}
-use mathlib.Core.Bool.{true, false}
-use native.Mathlib.Omega.{arith}
+use mathlib.Core.Path.{_≡_, sym, ap, subst, _∙_}
+use mathlib.Core.Bool.{true}
 use lib.ListN.{set, length}
 use Rattle.std.specs.Of.Vec.{vec-items}
 use Rattle.std.proofs.shelf.Lists.{refilled-is}
@@ -10,7 +9,7 @@ use Rattle.queue.specs.Queues.{held}
 use Rattle.queue.proofs.Tables.{held-within}
 use Rattle.heap_theory.specs.Heaps.{Shape, Ordered}
 use Rattle.heap.proofs.Stores.{shape-of, set-none, of-same, of-refilled, owed}
-use Rattle.heap.proofs.heap.HeapQueue.discard.Needs as need
+use Rattle.heap.proofs.store.HeapQueue.discard.Needs as need
 
 pub remove-requires : need.remove-requires
 remove-requires g c κs =

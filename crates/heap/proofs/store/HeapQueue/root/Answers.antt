@@ -11,7 +11,7 @@ use Rattle.queue.specs.Queues.{at, held}
 use Rattle.queue.proofs.Tables.{differ, not-vacant}
 use Rattle.heap_theory.proofs.Edits.{none-held, root-within, root-held, root-smallest}
 use Rattle.heap.proofs.Stores.{shape-of, root-read}
-use Rattle.heap.proofs.heap.HeapQueue.root.Needs as need
+use Rattle.heap.proofs.store.HeapQueue.root.Needs as need
 
 pub returns-then-self-eq0 : need.returns-then-self-eq0
 returns-then-self-eq0 g c =
