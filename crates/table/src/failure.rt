@@ -1,7 +1,6 @@
 // Why the program ends with status 1.
 use crate::refusal::Refusal;
 use crate::refusal::RefusalDisplay;
-use crate::refusal::refusal_of;
 use std::alloc::AllocError;
 use std::fmt;
 use std::io;
@@ -23,7 +22,7 @@ pub impl From<ReadFault> for Failure as FailureFromRead {
     fn from(e: ReadFault) -> Failure {
         match e {
             ReadFault::Memory => Failure::Memory,
-            ReadFault::Text(fault) => Failure::Text(refusal_of(fault)),
+            ReadFault::Text(fault) => Failure::Text(Refusal(fault)),
         }
     }
 }
