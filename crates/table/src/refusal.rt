@@ -21,7 +21,8 @@ fn meaning(fault: LoadFault) -> &'static str {
         LoadFault::Frame(FrameFault::Line(LineFault::Digit(_))) => {
             "here stands no digit of 0-9a-f, or the line ends empty or odd"
         }
-        LoadFault::Frame(FrameFault::Line(LineFault::Long(_))) => "the line has more than 514 digits",
+        LoadFault::Frame(FrameFault::Line(LineFault::Long(_))) =>
+            "the line has more than 514 digits",
         LoadFault::Frame(FrameFault::Line(LineFault::Early(_))) => "the text ends inside this line",
         LoadFault::Frame(FrameFault::NotDue(_)) => "this kind of frame is not due",
         LoadFault::Frame(FrameFault::Length(_)) => {
@@ -42,6 +43,9 @@ pub impl fmt::Display for Refusal as RefusalDisplay {
         let unit = unit(self.0);
         let at = self.0.place().at;
         let meaning = meaning(self.0);
-        write!(f, "text refused {number}: line {line}, {unit} {at}: {meaning}")
+        write!(
+            f,
+            "text refused {number}: line {line}, {unit} {at}: {meaning}"
+        )
     }
 }
