@@ -50,7 +50,7 @@ module _ (F : Table → Table) (causal : Causal F) where
       λ q. ⊎-elim (λ at. omega (arith, ap y at, ap x at)) (λ other. omega (arith, table-other after i f q other)) (cases-eq q i) in
       record {
         falling = λ q. let down : F y q ≤ F x q = causal x y q (λ r _. under r) in
-          ⊎-elim (λ at. omega (arith, ap y at, ap (F x) at)) (λ other. omega (arith, table-other after i f q other, h .falling q)) (cases-eq q i);
+            ⊎-elim (λ at. omega (arith, ap y at, ap (F x) at)) (λ other. omega (arith, table-other after i f q other, h .falling q)) (cases-eq q i);
         lower = λ q. omega (arith, under q, h .lower q);
         fell = λ _. (i, omega arith, omega (arith, h .lower i));
         settled = λ no. absurd (true≢false no);
@@ -59,9 +59,10 @@ module _ (F : Table → Table) (causal : Causal F) where
   -- one or the other, by whether the two figures are equal
   pub swept-more : (i : ℕ) (before after : List Figure) (changed : Bool) (f d : Figure) (b : Bool) → i < length after → length after ≡ length before → Swept F i before after changed → rank f ≡ F (table after) i → Decides b (f ≡ getD after i d) → (b ≡ false → Swept F (i + 1) before (set after i f) true) × (b ≡ true → Swept F (i + 1) before after changed)
   swept-more i before after changed f d b l same h e told =
-      let at : getD after i d ≡ getD after i None = getD-default after i d None l in
-      ((λ no. swept-set i before after changed f l same h e (λ z. both-ways b no (told .1 (same-rank _ _ (e ∙ sym z) ∙ sym at))))
-      , λ yes. swept-same F i before after changed h (sym (ap rank (told .0 yes ∙ at)) ∙ e))
+      let at : getD after i d ≡ getD after i None = getD-default after i d None l in (
+        (λ no. swept-set i before after changed f l same h e (λ z. both-ways b no (told .1 (same-rank _ _ (e ∙ sym z) ∙ sym at)))),
+        λ yes. swept-same F i before after changed h (sym (ap rank (told .0 yes ∙ at)) ∙ e),
+      )
 
 -- a sweep that changes something lowers the sum
 pub sum-falls : (F : Table → Table) (n : ℕ) (before after : List Figure) → Swept F n before after true → total (length before) (table after) < total (length before) (table before)

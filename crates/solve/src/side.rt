@@ -81,7 +81,13 @@ fn action_side<R: CostRule>(task: &Task, rule: &R, figures: &[Figure], number: u
 }
 
 // What the equations make of the item: none for what is no item.
-pub(crate) fn side_of<R: CostRule>(task: &Task, state: &State, rule: &R, figures: &[Figure], item: usize) -> Figure
+pub(crate) fn side_of<R: CostRule>(
+    task: &Task,
+    state: &State,
+    rule: &R,
+    figures: &[Figure],
+    item: usize,
+) -> Figure
     ensures { λ r. ⌜ rank r ≡ equations (R·CostRule .result (now (rule .entry))) (problem (now (task .entry))) (standing (now (state .entry))) (table (now (figures .entry))) item ⌝ }
 {
     let facts = usize::from(task.facts());

@@ -13,7 +13,12 @@ use strips::state::State;
 use strips::task::Task;
 
 // The figures of all items, facts and then actions: the one table that solves the equations. A fact beyond the task does no harm.
-pub fn solve<R: CostRule>(heap: Global, task: &Task, state: &State, rule: &R) -> Result<Vec<Figure>, AllocError>
+pub fn solve<R: CostRule>(
+    heap: Global,
+    task: &Task,
+    state: &State,
+    rule: &R,
+) -> Result<Vec<Figure>, AllocError>
     ensures { λ r. ⌜ made r (λ v. Solved (R·CostRule .result (now (rule .entry))) (problem (now (task .entry))) (standing (now (state .entry))) (vec-items v)) ⌝ }
 {
     let mut figures = vec![in heap; Figure::None; task.item_count()]?;

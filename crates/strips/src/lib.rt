@@ -12,3 +12,4 @@ pub mod task;
 pub mod tasks;
 pub mod reading;
 pub mod moves;
+pub mod twins;

@@ -23,7 +23,8 @@ loop-item-again g c =
     let f = c .side-of-side .result in let same = c .ne .ensures .0 in
     let P : List Figure → Bool → Type 0 = λ l b. Swept F (i + 1) before l b in
     let more = swept-more F (system rule (g .R·CostRule·met .lawful (c .args .rule .now)) p s .causal) i before held (c .loop-item .changed) f (c .index-figures-item .result) same
-      (omega arith) (c .loop-item .kept .figures) (c .loop-item .inv) (c .side-of-side .ensures) (c .ne .ensures .1) in
-    elim (c .if-ne .came)
-    [ then-ne w ↦ subst (λ l. P l (c .if-ne .changed)) (sym (w .figures-is)) (subst (λ b. P (set held i f) b) (sym (w .changed-is)) (more .0 (not-true same (sym (c .ne .ensures .2) ∙ w .if-ne .taken))))
-    | else-ne w ↦ subst (λ l. P l (c .if-ne .changed)) (sym (w .figures-is)) (subst (λ b. P held b) (sym (w .changed-is)) (more .1 (not-false same (sym (c .ne .ensures .2) ∙ w .if-ne .left)))) ]
+    (omega arith) (c .loop-item .kept .figures) (c .loop-item .inv) (c .side-of-side .ensures) (c .ne .ensures .1) in
+    elim (c .if-ne .came) [
+      | then-ne w ↦ subst (λ l. P l (c .if-ne .changed)) (sym (w .figures-is)) (subst (λ b. P (set held i f) b) (sym (w .changed-is)) (more .0 (not-true same (sym (c .ne .ensures .2) ∙ w .if-ne .taken))))
+      | else-ne w ↦ subst (λ l. P l (c .if-ne .changed)) (sym (w .figures-is)) (subst (λ b. P held b) (sym (w .changed-is)) (more .1 (not-false same (sym (c .ne .ensures .2) ∙ w .if-ne .left))))
+    ]
