@@ -3,12 +3,12 @@ use mathlib.Core.Path.{_≡_, refl, sym, ap, ap₂, subst, _∙_}
 use mathlib.Core.Bool.{Bool, true, false, not, cond, _&&_}
 use mathlib.Core.List.{List, [], _∷_}
 use mathlib.Core.Logic.{_≢_, _⊎_, inl, inr, ⊎-elim}
-use Prim.Native.Nat.{ℕ, _≤_, _<_, min}
+use Prim.Native.Nat.{ℕ, _+_, _≤_, _<_, min}
 use native.Mathlib.Omega.{arith}
 use lib.Dec.{eqb, leb}
 use lib.ListN.{length, getD, set, length-set, replicate, length-replicate}
 use Rattle.std.proofs.shelf.Lists.{getD-past, getD-set-same, getD-set-other, getD-replicate}
-use Rattle.std.proofs.shelf.Tests.{cases-lt, cases-eq, cases-bool, cond-true, cond-false, eq-eqb, ne-eqb, leb-true, leb-false, true≢false}
+use Rattle.std.proofs.shelf.Tests.{cases-lt, cases-eq, cases-bool, cond-true, cond-false, eq-eqb, ne-eqb, leb-true, leb-false, le-leb, true≢false}
 use Rattle.std.specs.declared.option.Option.{Option}
 use Rattle.std.specs.declared.option.Option.the-variants as option
 use Rattle.figure.specs.declared.figure.Figure.{Figure}
@@ -119,3 +119,18 @@ stale-start F n pairs e room = record {
   rights = λ q. inl refl;
   dues = λ q. vacant-empty pairs e q ∙ sym (ap (λ f. due f f) (nothing n q));
 }
+
+-- what is past the last item is right
+pub stale-past : (F : Table → Table) (held right : List Figure) (pairs : List (Option Figure)) (n : ℕ) → ((q : ℕ) → n ≤ q → F (table held) q ≡ top) → length right ≤ n → Stale F held right pairs (λ q. leb n q) → Kept F held right pairs
+stale-past F held right pairs n beyond long t =
+    dues-kept F held right pairs (t .room)
+    (λ q. ⊎-elim (λ m. let h = leb-true n q m in table-past right q (omega arith) ∙ sym (beyond q h)) (λ e. e) (t .rights q))
+    (t .dues)
+
+-- item n struck, the stale ones begin one further
+pub struck-from : (n q : ℕ) → struck n (λ r. leb n r) q ≡ true → leb (n + 1) q ≡ true
+struck-from n q e =
+    ⊎-elim
+    (λ i. absurd (true≢false (sym e ∙ ap (λ a. not a && leb n q) (eq-eqb n q i))))
+    (λ o. let h = leb-true n q (sym (ap (λ a. not a && leb n q) (ne-eqb n q o)) ∙ e) in le-leb (n + 1) q (omega arith))
+    (cases-eq n q)
