@@ -1,0 +1,6 @@
+// Sessions: the figures of a task's items, kept up to date as facts come and go.
+pub mod call;
+pub mod calls;
+pub mod fault;
+pub mod questions;
+pub mod session;
