@@ -2,5 +2,9 @@
 pub mod call;
 pub mod calls;
 pub mod fault;
+pub mod open;
 pub mod questions;
+mod room;
 pub mod session;
+pub mod unopened;
+pub mod work;

@@ -109,7 +109,7 @@ module _ (F : Table → Table) (held right : List Figure) (pairs : List (Option 
     dues = t .dues;
   }
 
-nothing : (n r : ℕ) → getD (replicate n None) r None ≡ None
+pub nothing : (n r : ℕ) → getD (replicate n None) r None ≡ None
 nothing n r = ⊎-elim (λ h. getD-replicate n r None None h) (λ h. getD-past (replicate n None) r None (omega (arith, h, length-replicate n None))) (cases-lt r n)
 
 -- at the opening every item may be stale
