@@ -45,9 +45,9 @@ impl<R: CostRule, Q: Queue<Key = Figure>> Session<R, Q> {
         if fact >= self.base.task.facts() {
             return Err(SessionFault::Unknown);
         }
-        let mut state = self.state;
-        if state.insert(fact) {
-            self.restand(state, fact);
+        let mut with = self.state;
+        if with.insert(fact) {
+            self.restand(with, fact);
             return Ok(true);
         }
         Ok(false)
@@ -62,9 +62,9 @@ impl<R: CostRule, Q: Queue<Key = Figure>> Session<R, Q> {
         if fact >= self.base.task.facts() {
             return Err(SessionFault::Unknown);
         }
-        let mut state = self.state;
-        if state.remove(fact) {
-            self.restand(state, fact);
+        let mut without = self.state;
+        if without.remove(fact) {
+            self.restand(without, fact);
             return Ok(true);
         }
         Ok(false)

@@ -17,7 +17,8 @@ impl<R, Q> Session<R, Q> {
     pub fn state(&self) -> State
         ensures { λ r. ⌜ r ≡ now (self .entry) .state ⌝ }
     {
-        self.state
+        let facts = self.state;
+        facts
     }
 
     // Whether a fact stands.
