@@ -3,11 +3,9 @@ use Prim.Native.Nat.{ℕ, _<_, _≤_}
 use lib.Dec.{ltb}
 use lib.ListN.{length, getD, set, replicate, length-replicate}
 use lib.Seq.{set-getD}
-use mathlib.Core.Path.{_≡_, refl, sym, ap, subst, fun-ext, _∙_}
-use mathlib.Core.Bool.{Bool, true, false, Bool-set}
+use mathlib.Core.Path.{_≡_, refl, sym, ap, subst, _∙_}
+use mathlib.Core.Bool.{false}
 use mathlib.Core.List.{List}
-use native.Mathlib.Bridge.{le-prop}
-use native.Mathlib.Nat.{ℕ-set}
 use native.Mathlib.Omega.{arith}
 use borrow.Author.Tests.{le-ltb}
 use Rattle.std.proofs.shelf.Lists.{refilled-is, getD-read, getD-replicate}
@@ -19,8 +17,8 @@ use Rattle.std.specs.declared.option.Option.{Option}
 use Rattle.std.specs.declared.option.Option.the-variants.{Some, None}
 use Rattle.queue.specs.Queues.{at, held}
 use Rattle.queue.proofs.Tables.{differ}
-use Rattle.heap_theory.specs.Heaps.{Shape, Ordered, Paired, slot-key}
-use Rattle.heap.specs.declared.heap.HeapQueue.{HeapQueue}
+use Rattle.heap_theory.specs.Heaps.{Shape, Paired, slot-key}
+use Rattle.heap.specs.declared.store.HeapQueue.{HeapQueue}
 
 -- the shape that a heap's ghost fields say
 pub shape-of : {K : Type 0} (h : HeapQueue K) → Shape (vec-items (h .keys)) (vec-items (h .slots)) (vec-items (h .places)) (h .size)
@@ -54,45 +52,6 @@ module _ {K : Type 0} (keys : List (Option K)) (slots places : List ℕ) (size :
   pub owed : Shape keys slots places size → Owed
   owed z = (z .fits, (z .paired .slots-long, (z .paired .places-long, (z .paired .slot-within, (z .paired .slot-back, (z .paired .place-within, (z .paired .place-back, (z .held, tt))))))))
 
-both-one : {A B : Type 0} → IsProp A → IsProp B → IsProp (A × B)
-both-one f g x y = λ i. (f (x .0) (y .0) i, g (x .1) (y .1) i)
-
-each-one : {n : ℕ} {B : ℕ → Type 0} → ((k : ℕ) → IsProp (B k)) → IsProp ((k : ℕ) → k < n → B k)
-each-one f x y = fun-ext (λ k. fun-ext (λ h. f k (x k h) (y k h)))
-
-owed-one : {K : Type 0} (keys : List (Option K)) (slots places : List ℕ) (size : ℕ) → IsProp (Owed keys slots places size)
-owed-one keys slots places size =
-    both-one le-prop
-    (both-one (ℕ-set _ _)
-    (both-one (ℕ-set _ _)
-    (both-one (each-one (λ k. le-prop))
-    (both-one (each-one (λ k. ℕ-set _ _))
-    (both-one (each-one (λ k. le-prop))
-    (both-one (each-one (λ k. ℕ-set _ _))
-    (both-one (each-one (λ k. Bool-set _ _))
-    (λ x y. refl))))))))
-
-abbrev shown : {K : Type 0} (h : HeapQueue K) → Owed (vec-items (h .keys)) (vec-items (h .slots)) (vec-items (h .places)) (h .size) → HeapQueue K
-shown h o = record {
-  keys = h .keys;
-  slots = h .slots;
-  places = h .places;
-  size = h .size;
-  fits = o .0;
-  «slots_long» = o .1 .0;
-  «places_long» = o .1 .1 .0;
-  «slot_within» = o .1 .1 .1 .0;
-  «slot_back» = o .1 .1 .1 .1 .0;
-  «place_within» = o .1 .1 .1 .1 .1 .0;
-  «place_back» = o .1 .1 .1 .1 .1 .1 .0;
-  held = o .1 .1 .1 .1 .1 .1 .1 .0;
-}
-
--- a heap is its vectors and its size, however its ghost fields were shown
-pub same-heap : {K : Type 0} (h : HeapQueue K) (o : Owed (vec-items (h .keys)) (vec-items (h .slots)) (vec-items (h .places)) (h .size)) → shown h o ≡ h
-unfolding owed shape-of
-same-heap h o = ap (shown h) (owed-one _ _ _ _ o (owed _ _ _ _ (shape-of h)))
-
 module _ {K : Type 0} (P : List (Option K) → List ℕ → List ℕ → Type 0) where
   -- what holds of three lists holds of lists that equal them
   pub of-same : {keys ks : List (Option K)} {slots ss places ps : List ℕ} → ks ≡ keys → ss ≡ slots → ps ≡ places → P keys slots places → P ks ss ps
@@ -104,10 +63,6 @@ module _ {K : Type 0} (P : List (Option K) → List ℕ → List ℕ → Type 0)
   of-refilled kv sv pv keys slots places k s p o = of-same (refilled-is kv keys k) (refilled-is sv slots s) (refilled-is pv places p) o
 
 module _ {K : Type 0} where
-  -- an element read, whatever the default
-  pub read-held : (t : List (Option K)) (i : ℕ) (x : Option K) (b : Bool) → i < length t → x ≡ getD t i x → isSome x ≡ b → held t i ≡ b
-  read-held t i x b h e q = ap isSome (sym (getD-read t i x h e None)) ∙ q
-
   none-of : (o : Option K) → isSome o ≡ false → o ≡ None
   none-of None e = refl
   none-of (Some x) e = absurd (differ e)
@@ -140,7 +95,3 @@ module _ {K : Type 0} where
             let low : i < n = subst (λ v. i < v) long h in
             ap isSome (ap (λ t. at t (getD slots i 0)) ks ∙ ap (at (replicate n None)) (ss i low) ∙ getD-replicate n i None None low) ∙ sym (le-ltb i 0 (omega arith));
       }
-
-  -- no item stands below another where there is none
-  pub order-fresh : (leq : K → K → Bool) (keys : List (Option K)) (slots : List ℕ) → Ordered leq keys slots 0
-  order-fresh leq keys slots i j c h = absurd (omega arith)

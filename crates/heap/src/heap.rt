@@ -1,36 +1,22 @@
 // The heap as a queue. All its memory is got when it is made.
 ghost use mathlib.Core.Path.{_≡_};
-ghost use Prim.Native.Nat.{ℕ, _<_, _≤_};
-ghost use lib.Dec.{ltb};
-ghost use lib.ListN.{length, getD};
+ghost use mathlib.Core.Bool.{not};
+ghost use Prim.Native.Nat.{ℕ, _<_};
+ghost use lib.ListN.{length, getD, set, replicate};
 ghost use Rattle.std.specs.Of.Vec.{vec-items};
 ghost use Rattle.std.specs.Options.{isSome};
 ghost use Rattle.std.specs.Vec.{made};
-ghost use Rattle.heap_theory.specs.Heaps.{slot-key, Ordered};
+ghost use Rattle.std.specs.declared.option.Option.the-variants.{Some, None};
+ghost use Rattle.queue.specs.Queues.{held, vacant, Front, Smallest};
+ghost use Rattle.heap.specs.Meaning.{pairs-of, In-order};
 use crate::edits::remove;
 use crate::edits::store;
+pub use crate::store::HeapQueue;
 use queue::key::Key;
 use queue::queue::Queue;
 use queue::refusal::QueueRefusal;
 use std::alloc::AllocError;
 use std::alloc::Global;
-
-// Keys by item; items by slot, every item in one slot, those that are held first; slots by item.
-#[derive(Drop)]
-pub struct HeapQueue<K: Key> {
-    keys: Vec<Option<K>>,
-    slots: Vec<usize>,
-    places: Vec<usize>,
-    size: usize,
-    ghost fits: { size ≤ length (vec-items keys) },
-    ghost slots_long: { length (vec-items slots) ≡ length (vec-items keys) },
-    ghost places_long: { length (vec-items places) ≡ length (vec-items keys) },
-    ghost slot_within: { (i : ℕ) → i < length (vec-items keys) → getD (vec-items slots) i 0 < length (vec-items keys) },
-    ghost slot_back: { (i : ℕ) → i < length (vec-items keys) → getD (vec-items places) (getD (vec-items slots) i 0) 0 ≡ i },
-    ghost place_within: { (j : ℕ) → j < length (vec-items keys) → getD (vec-items places) j 0 < length (vec-items keys) },
-    ghost place_back: { (j : ℕ) → j < length (vec-items keys) → getD (vec-items slots) (getD (vec-items places) j 0) 0 ≡ j },
-    ghost held: { (i : ℕ) → i < length (vec-items keys) → isSome (slot-key (vec-items keys) (vec-items slots) i) ≡ ltb i size },
-}
 
 // The numbers below `n`, in order.
 fn numbers(heap: Global, n: usize) -> Result<Vec<usize>, AllocError>
@@ -43,36 +29,26 @@ fn numbers(heap: Global, n: usize) -> Result<Vec<usize>, AllocError>
     Ok(all)
 }
 
-pub impl<K: Key> Queue for HeapQueue<K> as HeapAsQueue {
-    type Key = K;
+// A heap of no items: each stands in the slot of its number.
+fn empty<K: Key>(heap: Global, capacity: usize) -> Result<HeapQueue<K>, AllocError>
+    ensures { λ r. ⌜ made r (λ q. (pairs-of q ≡ replicate capacity None) × (q .size ≡ 0)) ⌝ }
+{
+    let mut keys = Vec::new(heap);
+    keys.resize(capacity, None)?;
+    let slots = numbers(heap, capacity)?;
+    let places = numbers(heap, capacity)?;
+    Ok(HeapQueue {
+        keys,
+        slots,
+        places,
+        size: 0,
+    })
+}
 
-    ghost pairs = { λ q. vec-items (q .keys) };
-
-    // No child's key is below its parent's.
-    ghost sound = { λ q. Ordered (K·Key .leq) (vec-items (q .keys)) (vec-items (q .slots)) (q .size) };
-
-    fn new(heap: Global, capacity: usize) -> Result<HeapQueue<K>, AllocError> {
-        let mut keys = Vec::new(heap);
-        keys.resize(capacity, None)?;
-        let slots = numbers(heap, capacity)?;
-        let places = numbers(heap, capacity)?;
-        Ok(HeapQueue {
-            keys,
-            slots,
-            places,
-            size: 0,
-        })
-    }
-
-    fn capacity(&self) -> usize {
-        self.keys.len()
-    }
-
-    fn is_empty(&self) -> bool {
-        self.size == 0
-    }
-
-    fn holds(&self, item: usize) -> bool {
+impl<K: Key> HeapQueue<K> {
+    fn contains(&self, item: usize) -> bool
+        ensures { λ r. ⌜ r ≡ held (pairs-of (now (self .entry))) item ⌝ }
+    {
         if item < self.keys.len() {
             self.keys[item].is_some()
         } else {
@@ -80,10 +56,29 @@ pub impl<K: Key> Queue for HeapQueue<K> as HeapAsQueue {
         }
     }
 
-    fn put(&mut self, item: usize, key: K) -> Result<(), QueueRefusal> {
-        if item >= self.keys.len() {
-            return Err(QueueRefusal::Beyond);
+    // The item in the first slot, with its key.
+    fn root(&self) -> Option<(usize, K)>
+        ensures found { λ r. ⌜ Front (pairs-of (now (self .entry))) r ⌝ }
+        ensures some { λ r. ⌜ vacant (pairs-of (now (self .entry))) ≡ not (isSome r) ⌝ }
+        ensures least { λ r. ⌜ (In-order (K·Key .leq) (now (self .entry)) → Smallest (K·Key .leq) (pairs-of (now (self .entry))) r) ⌝ }
+    {
+        if self.size == 0 {
+            return None;
         }
+        let item = self.slots[0];
+        let first = self.keys[item];
+        match first {
+            Some(key) => Some((item, key)),
+            None => None,
+        }
+    }
+
+    // Adds an item or gives it another key.
+    fn insert(&mut self, item: usize, key: K)
+        requires { ⌜ item < length (pairs-of (now self)) ⌝ }
+        ensures after { λ _. ⌜ pairs-of (now (self .exit)) ≡ set (pairs-of (now (self .entry))) item (Some key) ⌝ }
+        ensures order { λ _. ⌜ (In-order (K·Key .leq) (now (self .entry)) → In-order (K·Key .leq) (now (self .exit))) ⌝ }
+    {
         self.size = store(
             &mut self.keys,
             &mut self.slots,
@@ -92,44 +87,69 @@ pub impl<K: Key> Queue for HeapQueue<K> as HeapAsQueue {
             item,
             key,
         );
+    }
+
+    // Removes an item, if it is held.
+    fn discard(&mut self, item: usize)
+        ensures after { λ _. ⌜ pairs-of (now (self .exit)) ≡ set (pairs-of (now (self .entry))) item None ⌝ }
+        ensures order { λ _. ⌜ (In-order (K·Key .leq) (now (self .entry)) → In-order (K·Key .leq) (now (self .exit))) ⌝ }
+    {
+        if self.contains(item) {
+            remove(
+                &mut self.keys,
+                &mut self.slots,
+                &mut self.places,
+                self.size,
+                item,
+            );
+            self.size -= 1;
+        }
+    }
+}
+
+pub impl<K: Key> Queue for HeapQueue<K> as HeapAsQueue {
+    type Key = K;
+
+    ghost pairs = { pairs-of };
+
+    // No child's key is below its parent's.
+    ghost sound = { In-order (K·Key .leq) };
+
+    fn new(heap: Global, capacity: usize) -> Result<HeapQueue<K>, AllocError> {
+        empty(heap, capacity)
+    }
+
+    fn capacity(&self) -> usize {
+        self.keys.len()
+    }
+
+    fn is_empty(&self) -> bool {
+        self.root().is_none()
+    }
+
+    fn holds(&self, item: usize) -> bool {
+        self.contains(item)
+    }
+
+    fn put(&mut self, item: usize, key: K) -> Result<(), QueueRefusal> {
+        if item >= self.keys.len() {
+            return Err(QueueRefusal::Beyond);
+        }
+        self.insert(item, key);
         Ok(())
     }
 
     fn drop_item(&mut self, item: usize) -> bool {
-        if item >= self.keys.len() {
-            return false;
-        }
-        if self.keys[item].is_none() {
-            return false;
-        }
-        remove(
-            &mut self.keys,
-            &mut self.slots,
-            &mut self.places,
-            self.size,
-            item,
-        );
-        self.size -= 1;
-        true
+        let was = self.contains(item);
+        self.discard(item);
+        was
     }
 
     fn take(&mut self) -> Option<(usize, K)> {
-        if self.size == 0 {
-            return None;
-        }
-        let item = self.slots[0];
-        let held = self.keys[item];
-        match held {
-            Some(key) => {
-                remove(
-                    &mut self.keys,
-                    &mut self.slots,
-                    &mut self.places,
-                    self.size,
-                    item,
-                );
-                self.size -= 1;
-                Some((item, key))
+        match self.root() {
+            Some(pair) => {
+                self.discard(pair.0);
+                Some(pair)
             }
             None => None,
         }

@@ -3,3 +3,4 @@ mod edits;
 pub mod heap;
 mod sift;
 mod slots;
+mod store;

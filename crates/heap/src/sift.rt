@@ -1,5 +1,5 @@
 // Moving what stands in one slot to where heap order wants it.
-ghost use Prim.Native.Nat.{ℕ, _<_, _≤_};
+ghost use Prim.Native.Nat.{_<_, _≤_};
 ghost use lib.ListN.{length};
 ghost use Rattle.heap_theory.specs.Heaps.{Paired, Held, Ordered, Rising, Sinking, Unsettled};
 use crate::slots::exchange;

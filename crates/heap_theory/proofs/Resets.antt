@@ -1,11 +1,11 @@
 -- What an added, re-keyed or removed key does to heap order. Assumes nothing.
-use Prim.Native.Nat.{ℕ, _+_, _*_, _-_, _/_, _<_, _≤_, zero, suc}
+use Prim.Native.Nat.{ℕ, _+_, _-_, _/_, _<_, _≤_, zero, suc}
 use lib.ListN.{length, getD, set}
 use lib.Dec.{ltb}
 use lib.Seq.{getD-set-same, getD-set-other}
 use mathlib.Core.Path.{_≡_, refl, sym, ap, subst, _∙_}
-use mathlib.Core.Bool.{Bool, true, false}
-use mathlib.Core.Logic.{_⊎_, inl, inr, ⊎-elim}
+use mathlib.Core.Bool.{Bool, true}
+use mathlib.Core.Logic.{_⊎_, ⊎-elim}
 use mathlib.Core.List.{List}
 use native.Mathlib.Omega.{arith}
 use Rattle.std.proofs.shelf.Tests.{cases-eq, cases-lt, lt-ltb, le-ltb}
@@ -133,4 +133,3 @@ module _ {K : Type 0} where
       (λ kp. ap isSome (s .other k kp ks) ∙ old k kn ∙ sym (more-same k last ks))
       (cases-eq k p))
       (cases-eq k last)
-

@@ -1,8 +1,8 @@
 -- Lemmas on a scan of a table. Assumes nothing.
 use Prim.Native.Nat.{ℕ, _+_, _<_}
-use lib.ListN.{length, set}
+use lib.ListN.{length}
 use mathlib.Core.Path.{_≡_, refl, sym, subst}
-use mathlib.Core.Bool.{Bool, true, false, not}
+use mathlib.Core.Bool.{Bool, true, not}
 use mathlib.Core.Logic.{inl, inr}
 use mathlib.Core.List.{List}
 use native.Mathlib.Omega.{arith}
@@ -11,9 +11,9 @@ use Rattle.std.specs.Options.{isSome}
 use Rattle.std.specs.declared.option.Option.{Option}
 use Rattle.std.specs.declared.option.Option.the-variants.{Some, None}
 use Rattle.queue.specs.Keys.{Orders}
-use Rattle.queue.specs.Queues.{at, vacant, Taken, Smallest}
+use Rattle.queue.specs.Queues.{at, vacant, Front, Smallest}
 use Rattle.queue.specs.Scans.{Found, Better}
-use Rattle.queue.proofs.Tables.{differ, none-some, some-some, at-within, empty-vacant, not-vacant, leq-refl}
+use Rattle.queue.proofs.Tables.{none-some, some-some, at-within, empty-vacant, not-vacant, leq-refl}
 
 module _ {K : Type 0} where
   module _ (leq : K → K → Bool) where
@@ -28,21 +28,17 @@ module _ {K : Type 0} where
       none-of j None e = e
       none-of j (Some x) e = f j (at-within t j x e)
 
-    pub take-some : (t u : List (Option K)) (r : Option (ℕ × K)) (i : ℕ) (k : K) → u ≡ t → Found leq u (length u) r → r ≡ Some (i, k) → Taken t (set t i None) r × Smallest leq t r
-    take-some t u r i k e f q =
-        let g = subst (λ w. Found leq w (length w) (Some (i, k))) e (subst (Found leq u (length u)) q f) in
-        subst (λ o. Taken t (set t i None) o × Smallest leq t o) (sym q) ((g .1, refl), λ j x z. g .2 j (at-within t j x z) x z)
+    pub found-front : (t : List (Option K)) (r : Option (ℕ × K)) → Found leq t (length t) r → Front t r
+    found-front t None f = found-none t f
+    found-front t (Some p) f = (f .0, f .1)
 
-    pub take-none : (t u : List (Option K)) (r : Option (ℕ × K)) → u ≡ t → Found leq u (length u) r → r ≡ None → Taken t t r × Smallest leq t r
-    take-none t u r e f q =
-        subst (λ o. Taken t t o × Smallest leq t o) (sym q)
-        ((found-none t (subst (λ w. Found leq w (length w) None) e (subst (Found leq u (length u)) q f)), refl), tt)
+    pub found-some : (t : List (Option K)) (r : Option (ℕ × K)) → Found leq t (length t) r → vacant t ≡ not (isSome r)
+    found-some t None f = found-none t f
+    found-some t (Some p) f = not-vacant t (p .0) (p .1) (f .1)
 
-    pub found-test : (t u : List (Option K)) (r : Option (ℕ × K)) (b : Bool) → u ≡ t → Found leq u (length u) r → isSome r ≡ not b → b ≡ vacant t
-    found-test t u None true e f q = sym (found-none t (subst (λ w. Found leq w (length w) None) e f))
-    found-test t u None false e f q = absurd (differ (sym q))
-    found-test t u (Some p) true e f q = absurd (differ q)
-    found-test t u (Some p) false e f q = sym (not-vacant t (p .0) (p .1) (subst (λ w. at w (p .0) ≡ Some (p .1)) e (f .1)))
+    pub found-least : (t : List (Option K)) (r : Option (ℕ × K)) → Found leq t (length t) r → Smallest leq t r
+    found-least t None f = tt
+    found-least t (Some p) f = λ j x e. f .2 j (at-within t j x e) x e
 
   module _ {leq : K → K → Bool} (o : Orders leq) where
     new-best : (t : List (Option K)) (i : ℕ) (key : K) → at t i ≡ Some key → ((j : ℕ) → j < i → (x : K) → at t j ≡ Some x → leq key x ≡ true) → Found leq t (i + 1) (Some (i, key))

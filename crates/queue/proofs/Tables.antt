@@ -2,7 +2,7 @@
 use Prim.Native.Nat.{ℕ, _+_, _-_, _<_, _≤_, zero, suc}
 use lib.Seq.{take-nil}
 use lib.ListN.{length, getD, set, take, replicate}
-use mathlib.Core.Path.{_≡_, refl, sym, ap, subst, _∙_}
+use mathlib.Core.Path.{_≡_, refl, sym, ap, _∙_}
 use mathlib.Core.Bool.{Bool, true, false}
 use mathlib.Core.Logic.{_⊎_, ⊎-elim}
 use mathlib.Core.List.{List, [], _∷_, _++_}
@@ -11,7 +11,7 @@ use Rattle.std.proofs.shelf.Lists.{getD-past}
 use Rattle.std.specs.declared.option.Option.{Option}
 use Rattle.std.specs.declared.option.Option.the-variants.{Some, None}
 use Rattle.queue.specs.Keys.{Orders}
-use Rattle.queue.specs.Queues.{at, vacant, count}
+use Rattle.queue.specs.Queues.{at, held, vacant, count}
 
 pub differ : true ≡ false → ⊥
 differ h = let z : _≡_ {A = ℕ} 0 1 = cc in omega arith
@@ -32,6 +32,11 @@ module _ {K : Type 0} where
   at-within [] i x e = absurd (none-some {x = x} refl e)
   at-within (y ∷ t) zero x e = omega arith
   at-within (y ∷ t) (suc i) x e = let h = at-within t i x e in omega arith
+
+  pub held-within : (t : List (Option K)) (i : ℕ) → held t i ≡ true → i < length t
+  held-within [] i e = absurd (differ (sym e))
+  held-within (y ∷ t) zero e = omega arith
+  held-within (y ∷ t) (suc i) e = let h = held-within t i e in omega arith
 
   -- what is held with one pair removed was held before
   pub at-without : (t : List (Option K)) (i j : ℕ) (x : K) → at (set t i None) j ≡ Some x → at t j ≡ Some x

@@ -8,6 +8,7 @@
 --   vacant     whether nothing is held
 --   count      how many items are held
 --   Put        what put answers and leaves
+--   Front      what may be taken
 --   Taken      what take answers and leaves
 --   Smallest   no held key is below the key that was taken
 --   Removes    pairs removed one after another
@@ -63,10 +64,15 @@ module _ {K : Type 0} where
   Put pairs before after item key (Ok a) = Entered (pairs before) (pairs after) item key
   Put pairs before after item key (Err e) = Refused (pairs before) before after item e
 
+  -- what may be taken: nothing of an empty queue, else a held pair
+  abbrev pub Front : List (Option K) → Option (ℕ × K) → Type 0
+  Front t None = vacant t ≡ true
+  Front t (Some p) = (p .0 < length t) × (at t (p .0) ≡ Some (p .1))
+
   -- what take answers and leaves, from t to u: nothing of an empty queue, else a held pair, which is removed
   abbrev pub Taken : List (Option K) → List (Option K) → Option (ℕ × K) → Type 0
   Taken t u None = (vacant t ≡ true) × (u ≡ t)
-  Taken t u (Some p) = (at t (p .0) ≡ Some (p .1)) × (u ≡ set t (p .0) None)
+  Taken t u (Some p) = (p .0 < length t) × (at t (p .0) ≡ Some (p .1)) × (u ≡ set t (p .0) None)
 
   -- no held key is below the key that was taken
   abbrev pub Smallest : (K → K → Bool) → List (Option K) → Option (ℕ × K) → Type 0

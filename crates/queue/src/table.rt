@@ -1,8 +1,13 @@
 // A queue that is a table of keys, scanned whole.
 ghost use mathlib.Core.Path.{_≡_};
-ghost use lib.ListN.{length};
+ghost use mathlib.Core.Bool.{not};
+ghost use lib.ListN.{replicate};
 ghost use Rattle.std.specs.Of.Vec.{vec-items};
-ghost use Rattle.queue.specs.Scans.{Found, Better};
+ghost use Rattle.std.specs.Options.{isSome};
+ghost use Rattle.std.specs.Vec.{made};
+ghost use Rattle.std.specs.declared.option.Option.the-variants.{None};
+ghost use Rattle.queue.specs.Queues.{vacant, Front, Smallest};
+ghost use Rattle.queue.specs.Scans.{Better};
 use crate::key::Key;
 use crate::queue::Queue;
 use crate::refusal::QueueRefusal;
@@ -13,6 +18,15 @@ use std::alloc::Global;
 #[derive(Drop)]
 pub struct TableQueue<K: Key> {
     cells: Vec<Option<K>>,
+}
+
+// A table in which no item has a key.
+fn blank<K: Key>(heap: Global, length: usize) -> Result<Vec<Option<K>>, AllocError>
+    ensures { λ r. ⌜ made r (λ v. vec-items v ≡ replicate length None) ⌝ }
+{
+    let mut cells = Vec::new(heap);
+    cells.resize(length, None)?;
+    Ok(cells)
 }
 
 // The better of the best so far and one more.
@@ -33,7 +47,9 @@ fn better<K: Key>(best: Option<(usize, K)>, item: usize, key: K) -> Option<(usiz
 
 // A pair with a smallest key.
 fn find<K: Key>(cells: &[Option<K>]) -> Option<(usize, K)>
-    ensures { λ r. ⌜ Found (K·Key .leq) (now (cells .entry)) (length (now (cells .entry))) r ⌝ }
+    ensures found { λ r. ⌜ Front (now (cells .entry)) r ⌝ }
+    ensures some { λ r. ⌜ vacant (now (cells .entry)) ≡ not (isSome r) ⌝ }
+    ensures least { λ r. ⌜ Smallest (K·Key .leq) (now (cells .entry)) r ⌝ }
 {
     let mut best = None;
     for i in 0..cells.len() {
@@ -54,8 +70,7 @@ pub impl<K: Key> Queue for TableQueue<K> as TableAsQueue {
     ghost sound = { λ _. Unit {0} };
 
     fn new(heap: Global, capacity: usize) -> Result<TableQueue<K>, AllocError> {
-        let mut cells = Vec::new(heap);
-        cells.resize(capacity, None)?;
+        let cells = blank(heap, capacity)?;
         Ok(TableQueue { cells })
     }
 
@@ -93,10 +108,12 @@ pub impl<K: Key> Queue for TableQueue<K> as TableAsQueue {
     }
 
     fn take(&mut self) -> Option<(usize, K)> {
-        let best = find(&self.cells);
-        if let Some((item, _)) = best {
-            self.cells[item] = None;
+        match find(&self.cells) {
+            Some(pair) => {
+                self.cells[pair.0] = None;
+                Some(pair)
+            }
+            None => None,
         }
-        best
     }
 }

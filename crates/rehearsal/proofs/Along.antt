@@ -19,7 +19,7 @@ use Rattle.std.proofs.shelf.Tests.{cases-lt, false≢true}
 use Rattle.model.specs.Strips.{Problem, Action, State, action, no-action, step, Within}
 use Rattle.model.specs.Rehearsals.{Verdict, plan, unknown, blocked, missing, lacking, unless, verdict-from, verdict, Reading, good, refused, reading}
 use Rattle.model.proofs.Rehearsals.{verdicts}
-use Rattle.strips.specs.Standing.{First-from}
+use Rattle.strips.specs.Members.{First-from}
 use Rattle.rehearsal.specs.declared.verdict.Verdict.{Verdict as Answer}
 use Rattle.rehearsal.specs.declared.verdict.UnknownFact.{UnknownFact}
 use Rattle.rehearsal.specs.Rehearsed.{shown, Rehearsed}

@@ -10,7 +10,7 @@ use Rattle.std.specs.declared.result.Result.{Result}
 use Rattle.std.specs.declared.result.Result.the-variants.{Ok, Err}
 use Rattle.model.specs.Strips.{Problem, State, Plan, Within}
 use Rattle.model.specs.Rehearsals.{verdict, Reading, good, refused, reading}
-use Rattle.strips.specs.Standing.{First-from}
+use Rattle.strips.specs.Members.{First-from}
 use Rattle.rehearsal.specs.declared.verdict.Verdict.{Verdict}
 use Rattle.rehearsal.specs.declared.verdict.Verdict.the-variants as answer
 use Rattle.rehearsal.specs.declared.verdict.UnknownFact.{UnknownFact}

@@ -1,65 +1,68 @@
-// Rehearses plans on a small task and tells each verdict in words.
+// Rehearses plans: the task text comes on standard input, the steps as arguments, several lists of them parted by "/".
+// Tells each verdict in words, or what is wrong with the text. Either way the question is answered, and the status is 0.
+mod words;
+
 use rehearsal::rehearse::rehearse;
-use rehearsal::verdict::UnknownFact;
-use rehearsal::verdict::Verdict;
-use std::alloc::Global;
+use std::env;
 use std::error::AnyError;
-use strips::action::Action;
-use strips::list::FactList;
+use std::io::Read;
 use strips::state::State;
 use strips::task::Task;
+use tasktext::text::read_task;
+use textfault::fault::ReadFault;
+use words::tell_fault;
+use words::tell_verdict;
 
-fn list_of<const N: usize>(facts: &[u8]) -> Result<FactList<N>, AnyError> {
-    let mut list = FactList::new();
-    for f in facts {
-        if list.push(*f).is_err() {
-            return Err("a list is too long or does not rise".into());
+// An argument: a step, or the end of a list of steps.
+#[derive(Clone, Copy)]
+enum Word {
+    Step(u16),
+    Next,
+}
+
+fn arguments(rt: &LibcRuntime) -> Result<Vec<Word>, AnyError> {
+    let mut words = Vec::new(rt.alloc());
+    for word in env::args(rt)?.skip(1) {
+        if word.as_str() == "/" {
+            words.push(Word::Next)?;
+        } else if let Ok(step) = word.as_str().parse::<u16>() {
+            words.push(Word::Step(step))?;
+        } else {
+            return Err("usage: rehearse STEP.. [/ STEP..]..  with a step an action's number, and the task text on standard input".into());
         }
     }
-    Ok(list)
+    Ok(words)
 }
 
-// Fact 0 leads to 1 and that to 2, each step deleting what it needs.
-fn two_steps(heap: Global) -> Result<Task, AnyError> {
-    let mut actions = Vec::new(heap);
-    actions.push(Action::new(list_of(&[0])?, list_of(&[1])?, list_of(&[0])?))?;
-    actions.push(Action::new(list_of(&[1])?, list_of(&[2])?, list_of(&[1])?))?;
-    match Task::new(3, actions, list_of(&[2])?, list_of(&[0])?) {
-        Ok(task) => Ok(task),
-        Err(_) => Err("the parts make no task".into()),
-    }
-}
-
-fn tell(rt: &impl Print, verdict: Result<Verdict, UnknownFact>) -> Result<(), AnyError> {
-    match verdict {
-        Ok(Verdict::Plan) => println!(rt, "  a plan")?,
-        Ok(Verdict::UnknownAction { step }) => println!(rt, "  refused 12: step {step} is no action of the task")?,
-        Ok(Verdict::Blocked { step, fact }) => println!(rt, "  refused 13: step {step} is blocked, fact {fact} does not stand")?,
-        Ok(Verdict::GoalMissing { fact }) => println!(rt, "  refused 14: after the last step goal fact {fact} does not stand")?,
-        Err(unknown) => {
-            let fact = unknown.fact;
-            println!(rt, "  refused 8: the state has fact {fact}, which the task lacks")?
-        }
-    }
-    Ok(())
-}
-
-fn try_out(rt: &impl Print, task: &Task, live: &mut State, steps: &[u16]) -> Result<(), AnyError> {
+fn try_out(rt: &LibcRuntime, task: &Task, live: &mut State, steps: &[u16]) -> Result<(), AnyError> {
     println!(rt, "steps {steps:?}:")?;
-    tell(rt, rehearse(task, live, steps))
+    tell_verdict(rt, rehearse(task, live, steps))
+}
+
+fn try_all(rt: &LibcRuntime, task: &Task, words: &[Word]) -> Result<(), AnyError> {
+    let mut live = task.start_state();
+    let mut steps = Vec::new(rt.alloc());
+    for word in words {
+        match *word {
+            Word::Step(step) => steps.push(step)?,
+            Word::Next => {
+                try_out(rt, task, &mut live, steps.as_slice())?;
+                steps.clear();
+            }
+        }
+    }
+    try_out(rt, task, &mut live, steps.as_slice())
 }
 
 fn run(rt: &LibcRuntime) -> Result<(), AnyError> {
-    let task = two_steps(rt.alloc())?;
-    let mut live = task.start_state();
-    try_out(rt, &task, &mut live, &[0, 1])?;
-    try_out(rt, &task, &mut live, &[1])?;
-    try_out(rt, &task, &mut live, &[0])?;
-    try_out(rt, &task, &mut live, &[0, 7])?;
-    try_out(rt, &task, &mut live, &[])?;
-    let _ = live.insert(9);
-    println!(rt, "with fact 9 entered,")?;
-    try_out(rt, &task, &mut live, &[0, 1])
+    let words = arguments(rt)?;
+    let mut text = Vec::new(rt.alloc());
+    rt.stdin().read_to_end(&mut text)?;
+    match read_task(rt.alloc(), text.as_slice()) {
+        Ok(task) => try_all(rt, &task, words.as_slice()),
+        Err(ReadFault::Text(fault)) => tell_fault(rt, fault),
+        Err(ReadFault::Memory) => Err("no memory for a task".into()),
+    }
 }
 
 fn main(rt: LibcRuntime) -> Result<(), AnyError> {

@@ -19,7 +19,8 @@ use Rattle.strips.specs.declared.list.FactList.{FactList}
 use Rattle.strips.specs.declared.action.Action.{Action}
 use Rattle.strips.specs.declared.task.Task.{Task}
 use Rattle.strips.specs.Lists.{listed}
-use Rattle.strips.specs.Standing.{standing, Covers}
+use Rattle.strips.specs.Members.{Covers}
+use Rattle.strips.specs.Standing.{standing}
 use Rattle.strips.specs.Actions.{action-of}
 use Rattle.strips.specs.Fitting.{below, fits, all-fit}
 use Rattle.strips.specs.declared.fault.TaskFault.the-variants.{NoFacts, TooManyActions, InAction, InGoal, InStart}
@@ -51,10 +52,11 @@ action-fits m a h =
     let q = and-parts (below m (listed (a .add))) _ (p .1) in
     record { pre = listed-fits (a .pre) m (p .0); add = listed-fits (a .add) m (q .0); del = listed-fits (a .del) m (q .1) }
 
-pub lawful : (t : Task) → t .facts ≤ 255 → Lawful (problem t)
-lawful t small = record {
+-- every task is lawful
+pub lawful : (t : Task) → Lawful (problem t)
+lawful t = record {
   some = omega (arith, t .some);
-  few = small;
+  few = t .low;
   actions-few = omega (arith, t .few, t .actions .ok .0, length-map (vec-items (t .actions)) action-of);
   actions-fit = every-map (λ a. fits (t .facts) a ≡ true) (Fits (t .facts)) action-of (action-fits (t .facts)) (vec-items (t .actions)) (pass-every (fits (t .facts)) (vec-items (t .actions)) (t .fit));
   goal = listed-fits (t .goal) (t .facts) (t .«goal_known»);

@@ -1,4 +1,5 @@
-pub mod Bits
+pub mod Places
+pub mod Tails
 pub mod Words
 pub mod Naming
 pub mod Keeping

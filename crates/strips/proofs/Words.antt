@@ -13,8 +13,8 @@ use lib.ListN.{length, getD, set}
 use Rattle.std.proofs.shelf.Lists.{getD-past}
 use Rattle.std.proofs.shelf.Tests.{eq-eqb, ne-eqb, cases-lt, false≢true}
 use Rattle.model.specs.Strips.{State as Facts, entered, struck, changed}
-use Rattle.strips.specs.Standing.{bit}
-use Rattle.strips.proofs.Bits.{or-bit, and-bit, not-bit, one-bit, no-bit, bits-same}
+use Rattle.strips.specs.Members.{bit}
+use Rattle.strips.proofs.Places.{or-bit, and-bit, not-bit, one-bit, no-bit, bits-same}
 
 -- which facts stand, by the words alone
 abbrev pub inside : List ℕ → Facts

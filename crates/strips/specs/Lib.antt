@@ -1,4 +1,5 @@
 pub mod Lists
+pub mod Members
 pub mod Standing
 pub mod Actions
 pub mod Fitting

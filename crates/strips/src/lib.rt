@@ -2,6 +2,8 @@
 pub mod fault;
 pub mod list;
 pub mod lists;
+mod bits;
+mod bitsets;
 pub mod state;
 pub mod states;
 pub mod action;
@@ -10,3 +12,4 @@ pub mod task;
 pub mod tasks;
 pub mod reading;
 pub mod moves;
+pub mod twins;

@@ -1,6 +1,6 @@
 // Reading tasks.
 ghost use mathlib.Core.Path.{_≡_};
-ghost use Prim.Native.Nat.{_≤_};
+ghost use Prim.Native.Nat.{_+_, _≤_, _<_};
 ghost use lib.ListN.{length};
 ghost use Rattle.std.specs.Options.{Cases as BySome};
 ghost use Rattle.std.specs.declared.option.Option.the-variants.{Some, None};
@@ -13,13 +13,29 @@ use crate::action::Action;
 use crate::state::State;
 use crate::task::Task;
 
+fn actions_of(task: &Task) -> usize
+    ensures is { λ r. ⌜ r ≡ length (problem (now (task .entry)) .actions) ⌝ }
+    ensures few { λ r. ⌜ r ≤ 512 ⌝ }
+{
+    task.actions.len()
+}
+
+fn action_at(task: &Task, number: usize) -> Option<&Action>
+    ensures { λ r. ⌜ BySome r (nth (problem (now (task .entry)) .actions) number ≡ None) (λ a. nth (problem (now (task .entry)) .actions) number ≡ Some (action-of (now a))) ⌝ }
+{
+    if number >= task.actions.len() {
+        return None;
+    }
+    Some(&task.actions[number])
+}
+
 impl Task {
     // How many actions there are.
     pub fn action_count(&self) -> usize
         ensures is { λ r. ⌜ r ≡ length (problem (now (self .entry)) .actions) ⌝ }
         ensures few { λ r. ⌜ r ≤ 512 ⌝ }
     {
-        self.actions.len()
+        actions_of(self)
     }
 
     // How many items there are: facts, then actions.
@@ -33,10 +49,7 @@ impl Task {
     pub fn action(&self, number: usize) -> Option<&Action>
         ensures { λ r. ⌜ BySome r (nth (problem (now (self .entry)) .actions) number ≡ None) (λ a. nth (problem (now (self .entry)) .actions) number ≡ Some (action-of (now a))) ⌝ }
     {
-        if number >= self.action_count() {
-            return None;
-        }
-        Some(&self.actions[number])
+        action_at(self, number)
     }
 
     // The facts that a plan must make stand.

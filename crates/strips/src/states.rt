@@ -1,125 +1,100 @@
 // Reading and changing states.
 ghost use mathlib.Core.Path.{_≡_};
-ghost use mathlib.Core.Bool.{true, false, not};
+ghost use mathlib.Core.Bool.{not};
 ghost use mathlib.Core.List.{[]};
 ghost use Rattle.std.specs.Orderings.{Decides};
 ghost use Rattle.std.specs.shelf.Lists.{All as Every};
 ghost use Rattle.model.specs.Strips.{Stands, these, entered, struck, changed};
 ghost use Rattle.model.specs.Rehearsals.{lacking};
-ghost use Rattle.strips.specs.Standing.{standing, bit, Covers, First-from};
+ghost use Rattle.strips.specs.Members.{Covers, First-from};
+ghost use Rattle.strips.specs.Standing.{standing};
+use crate::bits::BitSet;
 use crate::state::State;
 
 pub impl PartialEq<State> for State as StateSame {
     ghost equals = { λ a b r. Decides r (standing a ≡ standing b) };
 
     fn eq(&self, other: &State) -> bool {
-        for i in 0..4 {
-            if self.words[i] != other.words[i] {
-                return false;
-            }
-        }
-        true
+        self.facts.same(&other.facts)
     }
 }
 
 pub impl Eq for State as StateEq {}
-
 
 impl State {
     // Nothing stands.
     pub fn new() -> State
         ensures { λ r. ⌜ standing r ≡ these [] ⌝ }
     {
-        State { words: [0; 4] }
+        State { facts: BitSet::empty() }
     }
 
     // The facts of the list stand, and no others.
-    pub fn of(facts: &[u8]) -> State
-        ensures { λ r. ⌜ standing r ≡ these (now (facts .entry)) ⌝ }
+    pub fn of(list: &[u8]) -> State
+        ensures { λ r. ⌜ standing r ≡ these (now (list .entry)) ⌝ }
     {
-        let mut state = State::new();
-        for f in facts {
-            let _ = state.insert(*f);
-        }
-        state
+        State { facts: BitSet::of(list) }
     }
 
     // Whether the fact stands.
     pub fn stands(&self, fact: u8) -> bool
         ensures { λ r. ⌜ r ≡ standing (now (self .entry)) fact ⌝ }
     {
-        self.words[(fact / 64) as usize] >> (fact % 64) & 1 == 1
+        self.facts.get(fact)
     }
 
-    // Makes the fact stand; tells whether it had not stood.
+    // Enters the fact: makes it stand; tells whether it had not stood.
     pub fn insert(&mut self, fact: u8) -> bool
         ensures told { λ r. ⌜ r ≡ not (standing (now (self .entry)) fact) ⌝ }
         ensures after { λ _. ⌜ standing (now (self .exit)) ≡ entered fact (standing (now (self .entry))) ⌝ }
     {
-        let new = !self.stands(fact);
-        self.words[(fact / 64) as usize] |= 1u64 << (fact % 64);
-        new
+        let stood = self.stands(fact);
+        self.facts.set(fact);
+        !stood
     }
 
-    // Makes the fact fall; tells whether it had stood.
+    // Strikes the fact: makes it fall; tells whether it had stood.
     pub fn remove(&mut self, fact: u8) -> bool
         ensures told { λ r. ⌜ r ≡ standing (now (self .entry)) fact ⌝ }
         ensures after { λ _. ⌜ standing (now (self .exit)) ≡ struck fact (standing (now (self .entry))) ⌝ }
     {
-        let old = self.stands(fact);
-        self.words[(fact / 64) as usize] &= !(1u64 << (fact % 64));
-        old
+        let had_stood = self.stands(fact);
+        self.facts.clear(fact);
+        had_stood
     }
 
     // Whether every fact of the other state stands in this one.
     pub fn covers(&self, other: &State) -> bool
         ensures { λ r. ⌜ Decides r (Covers (standing (now (self .entry))) (standing (now (other .entry)))) ⌝ }
     {
-        for i in 0..4 {
-            if self.words[i] & other.words[i] != other.words[i] {
-                return false;
-            }
-        }
-        true
+        self.facts.covers(&other.facts)
     }
 
     // Removes the facts of the first state, then puts in those of the second.
     pub fn change(&mut self, deletes: &State, adds: &State)
         ensures { λ _. ⌜ standing (now (self .exit)) ≡ changed (standing (now (deletes .entry))) (standing (now (adds .entry))) (standing (now (self .entry))) ⌝ }
     {
-        for i in 0..4 {
-            self.words[i] = self.words[i] & !deletes.words[i] | adds.words[i];
-        }
+        self.facts.change(&deletes.facts, &adds.facts);
     }
 
     // Whether each fact of the list stands.
-    pub fn has_all(&self, facts: &[u8]) -> bool
-        ensures { λ r. ⌜ Decides r (Every (Stands (standing (now (self .entry)))) (now (facts .entry))) ⌝ }
+    pub fn has_all(&self, list: &[u8]) -> bool
+        ensures { λ r. ⌜ Decides r (Every (Stands (standing (now (self .entry)))) (now (list .entry))) ⌝ }
     {
-        self.first_missing(facts).is_none()
+        self.facts.has_all(list)
     }
 
     // The first fact of the list that does not stand.
-    pub fn first_missing(&self, facts: &[u8]) -> Option<u8>
-        ensures { λ r. ⌜ r ≡ lacking (standing (now (self .entry))) (now (facts .entry)) ⌝ }
+    pub fn first_missing(&self, list: &[u8]) -> Option<u8>
+        ensures { λ r. ⌜ r ≡ lacking (standing (now (self .entry))) (now (list .entry)) ⌝ }
     {
-        for f in facts {
-            if !self.stands(*f) {
-                return Some(*f);
-            }
-        }
-        None
+        self.facts.first_missing(list)
     }
 
     // The first fact at or beyond the number that stands.
     pub fn first_from(&self, number: u8) -> Option<u8>
         ensures { λ r. ⌜ First-from (standing (now (self .entry))) number r ⌝ }
     {
-        for f in number..=255 {
-            if self.stands(f) {
-                return Some(f);
-            }
-        }
-        None
+        self.facts.first_from(number)
     }
 }

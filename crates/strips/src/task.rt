@@ -19,6 +19,7 @@ pub struct Task {
     pub(crate) start: FactList<255>,
     pub(crate) wanted: State,
     ghost some: { 0 < facts },
+    ghost low: { facts ≤ 255 },
     ghost few: { vec-len actions ≤ 512 },
     ghost fit: { all-fit facts (vec-items actions) ≡ true },
     ghost goal_known: { below facts (listed goal) ≡ true },

@@ -59,6 +59,13 @@ fn flaw_of(facts: u8, actions: &[Action], goal: &[u8], start: &[u8]) -> Option<T
     None
 }
 
+fn facts_of(task: &Task) -> u8
+    ensures is { λ r. ⌜ r ≡ problem (now (task .entry)) .facts ⌝ }
+    ensures lawful { λ _. ⌜ Lawful (problem (now (task .entry))) ⌝ }
+{
+    task.facts
+}
+
 impl Task {
     // The task of these parts, or why they make none; the actions are then given back.
     pub fn new(facts: u8, actions: Vec<Action>, goal: FactList<255>, start: FactList<255>) -> Result<Task, (TaskFault, Vec<Action>)>
@@ -78,6 +85,6 @@ impl Task {
         ensures is { λ r. ⌜ r ≡ problem (now (self .entry)) .facts ⌝ }
         ensures lawful { λ _. ⌜ Lawful (problem (now (self .entry))) ⌝ }
     {
-        self.facts
+        facts_of(self)
     }
 }

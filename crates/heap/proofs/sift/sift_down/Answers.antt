@@ -1,8 +1,7 @@
-use Prim.Native.Nat.{_<_}
 use mathlib.Core.Path.{sym, subst}
 use native.Mathlib.Omega.{arith}
 use Rattle.queue.specs.Queues.{at}
-use Rattle.heap_theory.specs.Heaps.{Paired, Swapped, Child, slot-key}
+use Rattle.heap_theory.specs.Heaps.{Paired, Swapped, slot-key}
 use Rattle.heap_theory.proofs.Sifts.{down-step, down-done}
 use Rattle.heap_theory.proofs.Swaps.{swapped-map, held-swap, option-trans, option-not}
 use Rattle.heap.proofs.sift.sift_down.Needs as need

@@ -2,7 +2,7 @@ use mathlib.Core.Path.{sym}
 use mathlib.Core.Logic.{inl, inr, ⊎-elim}
 use Prim.Native.Nat.{_*_, _+_}
 use native.Mathlib.Omega.{arith}
-use Rattle.heap_theory.specs.Heaps.{slot-key, option-leq}
+use Rattle.heap_theory.specs.Heaps.{slot-key}
 use Rattle.heap_theory.proofs.Sifts.{pick, child-is}
 use Rattle.heap_theory.proofs.Swaps.{option-trans, option-refl, option-not}
 use Rattle.heap.proofs.slots.lesser_child.Needs as need

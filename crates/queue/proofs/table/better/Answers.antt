@@ -1,8 +1,7 @@
 use mathlib.Core.Logic.{inr}
-use mathlib.Core.Path.{_≡_, refl, sym, _∙_, subst}
-use mathlib.Core.Bool.{false}
+use mathlib.Core.Path.{refl, sym, subst}
 use Rattle.queue.specs.Scans.{Better}
-use Rattle.std.specs.declared.option.Option.the-variants.{Some, None}
+use Rattle.std.specs.declared.option.Option.the-variants.{Some}
 use Rattle.queue.proofs.Tables.{not-leq}
 use Rattle.queue.proofs.table.better.Needs as need
 

@@ -1,11 +1,11 @@
-use mathlib.Core.Path.{refl, sym, _∙_, subst, _≡_}
+use mathlib.Core.Path.{sym, _∙_, subst, _≡_}
 use Prim.Native.Nat.{_+_}
 use native.Mathlib.Omega.{arith}
 use lib.ListN.{length}
 use Rattle.std.proofs.shelf.Lists.{getD-read}
 use Rattle.std.specs.declared.option.Option.the-variants.{None}
 use Rattle.queue.specs.Scans.{Found}
-use Rattle.queue.proofs.Scans.{found-skip, found-more}
+use Rattle.queue.proofs.Scans.{found-skip, found-more, found-front, found-some, found-least}
 use Rattle.queue.proofs.table.find.Needs.{in-Some, in-rest}
 use Rattle.queue.proofs.table.find.Needs as need
 
@@ -22,5 +22,9 @@ loop-i-again g c =
 
 pub returns : need.returns
 returns g c =
-    let e : c .loop-i .i ≡ length (c .args .cells .now) = omega arith in
-    subst (λ n. Found (g .K·Key .leq) (c .args .cells .now) n (c .loop-i .best)) e (c .loop-i .inv)
+    let t = c .args .cells .now in
+    let leq = g .K·Key .leq in
+    let r = c .loop-i .best in
+    let e : c .loop-i .i ≡ length t = omega arith in
+    let f : Found leq t (length t) r = subst (λ n. Found leq t n r) e (c .loop-i .inv) in
+    record { found = found-front leq t r f; some = found-some leq t r f; least = found-least leq t r f }

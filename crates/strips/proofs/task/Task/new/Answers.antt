@@ -19,4 +19,4 @@ ghost-result c =
         ∙ ap (λ l. flaw n (c .as-slice .result .now) (c .as-slice-2 .result .now) l) (sym (c .as-slice-3 .ensures))
         ∙ sym (c .in-None .ensures tt) in
     let u = unflawed n (vec-items (c .args .actions)) (listed (c .args .goal)) (listed (c .args .start)) none in
-    (u .some, (omega (arith, u .few, c .args .actions .ok .0), (u .fit, (u .goal-known, (u .start-known, (λ f. ap (λ s. s f) (c .of-wanted .ensures ∙ ap these (c .as-slice-in-None .ensures)), tt))))))
+    (u .some, (omega arith, (omega (arith, u .few, c .args .actions .ok .0), (u .fit, (u .goal-known, (u .start-known, (λ f. ap (λ s. s f) (c .of-wanted .ensures ∙ ap these (c .as-slice-in-None .ensures)), tt)))))))

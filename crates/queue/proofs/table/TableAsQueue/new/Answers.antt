@@ -1,6 +1,0 @@
-use mathlib.Core.Path.{_∙_}
-use Rattle.queue.proofs.Tables.{fresh}
-use Rattle.queue.proofs.table.TableAsQueue.new.Needs as need
-
-pub returns : need.returns
-returns g c = (tt, c .in-Continue-resize .ensures tt .items ∙ fresh _ _ _ _ (c .new-cells .ensures .items) (c .new-cells .ensures .len))

@@ -1,7 +1,0 @@
-use mathlib.Core.Path.{refl}
-use native.Mathlib.Omega.{arith}
-use Rattle.strips.proofs.Keeping.{lawful}
-use Rattle.strips.proofs.task.Task.facts.Needs as need
-
-pub returns : need.returns
-returns c = record { is = refl; lawful = lawful (c .args .self .now) (omega arith) }

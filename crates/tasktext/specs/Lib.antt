@@ -1,0 +1,4 @@
+pub mod Framing
+pub mod Stage
+pub mod Loads
+pub mod Reading

@@ -1,0 +1,3 @@
+// The faults of a task text, in layers.
+pub mod fault;
+pub mod shown;

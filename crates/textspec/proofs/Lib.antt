@@ -1,0 +1,11 @@
+pub mod Hexes
+pub mod Once
+pub mod Firsts
+pub mod Refused
+pub mod Shapes
+pub mod Walk
+pub mod Rises
+pub mod Accepts
+pub mod Complete
+pub mod Same
+pub mod Theorems
