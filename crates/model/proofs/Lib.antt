@@ -15,3 +15,4 @@ pub mod Plans
 pub mod Counts
 pub mod WorkedTables
 pub mod WorkedFigures
+pub mod Passing

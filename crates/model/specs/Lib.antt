@@ -6,3 +6,4 @@ pub mod Docket
 pub mod Settling
 pub mod Heuristics
 pub mod FigureExamples
+pub mod Runs

@@ -2,6 +2,7 @@
 ghost use Rattle.model.specs.FigureExamples.{Worked-figures};
 ghost use Rattle.model.specs.Figures.{Compares, One-table, Both-lawful, Parity};
 ghost use Rattle.model.specs.Heuristics.{Heuristics, Admissible};
+ghost use Rattle.model.specs.Runs.{Fresh-start};
 ghost use Rattle.model.specs.Settling.{Steps-keep, Settlings, Settling-ends, Local, Moved};
 
 // A table at or above what the equations make of it is at or above every table that is at or below.
@@ -84,6 +85,13 @@ pub fn admissible() -> u8
 // The worked examples of figures hold of the definitions.
 pub fn worked_figures() -> u8
     ensures { λ _. ⌜ Worked-figures ⌝ }
+{
+    0
+}
+
+// A settled session tells what a session tells that is opened on the facts now standing.
+pub fn fresh_start() -> u8
+    ensures { λ _. ⌜ Fresh-start ⌝ }
 {
     0
 }

@@ -1,0 +1,4 @@
+pub mod Passing
+mod Restanding
+mod Rooms
+mod Working

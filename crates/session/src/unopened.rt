@@ -1,0 +1,11 @@
+// An opening that was refused.
+use crate::fault::SessionFault;
+use strips::task::Task;
+
+// Why, and all that was given to it.
+pub struct Unopened<R, Q> {
+    pub fault: SessionFault,
+    pub task: Task,
+    pub rule: R,
+    pub queue: Q,
+}

@@ -1,0 +1,4 @@
+pub mod Queues
+pub mod Turns
+pub mod Reading
+pub mod Sides
