@@ -1,0 +1,6 @@
+pub mod Keys
+pub mod Writes
+pub mod Opens
+pub mod Takes
+pub mod Traces
+pub mod Endings
