@@ -27,8 +27,8 @@ use Rattle.search_theory.proofs.Walk.{differ}
 use Rattle.search_theory.proofs.Turn.{split, no-better, better, new, starts, not-taken, ends}
 use Rattle.search_theory.proofs.Count.{falls-better, falls-new}
 use Rattle.search_law.specs.Views.{view, queued, key-of, key-at}
-use Rattle.search_law.specs.Boards.{board, seen, enqueued, better-row, new-row, Keyed, Sized, Standing, Turning, Overfull, Moves}
-use Rattle.search_law.proofs.Keys.{one-key}
+use Rattle.search_law.specs.Boards.{board, enqueued, better-row, new-row, Standing, Turning, Overfull, Moves, Started}
+use Rattle.search_law.proofs.Keys.{one-key, enq-long}
 use Rattle.search_law.proofs.Writes.{Wrote, wrote, view-alike, keyed-alike, moves-alike}
 
 pub turn-not-taken : (p : Problem) (s : State) (rows : List Row) (t : List (Option Pair)) (used i a : ℕ) → Turning p s (board rows t used) i a → (May p a (view rows used .row i .state) → ⊥) → Turning p s (board rows t used) i (a + 1)
@@ -190,3 +190,26 @@ module _ (p : Problem) (start : Words) (h : Figure) (rows : List Row) (t : List 
   first-thrifty k kl o =
       let z : k ≡ 0 = omega arith in
       absurd (differ o (ap (λ x. view (set rows 0 f) 1 .row x .opened) z ∙ ap (λ x. x .opened) (f-wrote .here)))
+
+-- what the board is once the start state is recorded
+pub record Begun (p : Problem) (start : Words) (v : State → ℕ) (Agrees : Type 0) (rows after : List Row) (t u : List (Option Pair)) : Type 0 where
+  pub stands : Standing p (standing start) (board after u 1)
+  pub thrifty : Thrifty p (standing start) (view after 1)
+  pub told : Agrees → Told v (view after 1)
+  pub rest : (k : ℕ) → 1 ≤ k → getD after k blank ≡ getD rows k blank
+  pub long : length after ≡ length rows
+  pub space : length u ≡ length t
+
+pub begun : (p : Problem) (start : Words) (v : State → ℕ) (A : Type 0) (rows after : List Row) (t u : List (Option Pair)) → vacant t ≡ true → 0 < length rows → length rows ≤ 65535 → length rows ≤ length t → Started v A start rows after t u → Begun p start v A rows after t u
+begun p start v A rows after t u empty some small space b =
+    let h = b .figure in
+    let P : List Row → Type 0 = λ x. Begun p start v A rows x t u in
+    let Q : List (Option Pair) → Type 0 = λ y. Begun p start v A rows (set rows 0 (fresh start 0 h 0 0)) t y in
+    subst P (sym (b .rows-are)) (subst Q (sym (b .queue-is)) (record {
+      stands = first-stands p start h rows t empty some small space;
+      thrifty = first-thrifty p start h rows t empty some small space;
+      told = λ agrees. first-told p start h rows t empty some small space v (b .right agrees);
+      rest = first-rest p start h rows t empty some small space;
+      long = length-set rows 0 (fresh start 0 h 0 0);
+      space = enq-long t 0 (key-of 0 h);
+    }))

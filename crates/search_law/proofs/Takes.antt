@@ -124,3 +124,27 @@ module _ (p : Problem) (s : State) (rows : List Row) (t : List (Option Pair)) (u
 
   pub nothing-left : (v : State → ℕ) → Admissible-on p v → Told v (view rows used) → No-plan p s
   nothing-left v fair told = none-left p s (view rows used) (queued t) v fair told (m .kept) (λ i _. off i)
+
+-- the row is taken and opened: what the board is then
+pub record Now-open (p : Problem) (s : State) (rows : List Row) (t : List (Option Pair)) (used i : ℕ) (k : Pair) (mid : List Row) (u : List (Option Pair)) : Type 0 where
+  pub turn : Turning p s (board mid u used) i 0
+  pub falls : potential (length rows) (view mid used) (queued u) < potential (length rows) (view rows used) (queued t)
+  pub long : length mid ≡ length rows
+  pub space : length u ≡ length t
+  pub rest : (n : ℕ) → used ≤ n → getD mid n blank ≡ getD rows n blank
+  pub told : (v : State → ℕ) → Told v (view rows used) → Told v (view mid used)
+  pub thrifty : (v : State → ℕ) → Admissible-on p v → Told v (view rows used) → Smallest pair-leq t (Some (i, k)) → Thrifty p s (view rows used) → Thrifty p s (view mid used)
+
+pub now-open : (p : Problem) (s : State) (rows : List Row) (t : List (Option Pair)) (used i : ℕ) (k : Pair) → Standing p s (board rows t used) → at t i ≡ Some k → (Goal p (view rows used .row i .state) → ⊥) → (mid : List Row) (u : List (Option Pair)) → mid ≡ set rows i (opened-row (getD rows i blank)) → u ≡ set t i None → Now-open p s rows t used i k mid u
+now-open p s rows t used i k m held short mid u em eu =
+    let P : List Row → Type 0 = λ x. Now-open p s rows t used i k x u in
+    let Q : List (Option Pair) → Type 0 = λ y. Now-open p s rows t used i k (set rows i (opened-row (getD rows i blank))) y in
+    subst P (sym em) (subst Q (sym eu) (record {
+      turn = taken-turn p s rows t used i k m held short;
+      falls = taken-falls p s rows t used i k m held;
+      long = length-set rows i (opened-row (getD rows i blank));
+      space = length-set t i None;
+      rest = λ n le. there-row p s rows t used i k m held n (λ e. omega (arith, taken-within p s rows t used i k m held));
+      told = taken-told p s rows t used i k m held;
+      thrifty = taken-thrifty p s rows t used i k m held;
+    }))
