@@ -14,7 +14,7 @@ use lib.ListN.{length}
 use Rattle.std.specs.declared.option.Option.{Option}
 use Rattle.std.specs.declared.option.Option.the-variants.{Some}
 use Rattle.model.specs.Strips.{State, Problem, Within}
-use Rattle.strips.specs.Standing.{First-from}
+use Rattle.strips.specs.Members.{First-from}
 use Rattle.queue.specs.declared.key.Pair.{Pair}
 use Rattle.queue.specs.Queues.{vacant}
 use Rattle.rows.specs.declared.row.Row.{Row}

@@ -1,0 +1,3 @@
+pub mod Tabled
+pub mod Follows
+pub mod Asking
