@@ -19,7 +19,7 @@ fresh state steps estimate from action =
 
 -- the row that reads give past the end
 abbrev pub blank : Row
-blank = fresh (record { words = 0 ∷ 0 ∷ 0 ∷ 0 ∷ []; four = refl }) 0 None 0 0
+blank = fresh (record { facts = record { words = 0 ∷ 0 ∷ 0 ∷ 0 ∷ []; four = refl } }) 0 None 0 0
 
 -- a row without its links
 abbrev pub bare : Row → Row

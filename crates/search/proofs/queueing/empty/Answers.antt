@@ -10,12 +10,12 @@ pub loop-less : need.loop-less
 loop-less g c =
     let h = c .in-Some .ensures tt .after in
     let p = c .in-Some .field-0 in
-    omega (arith, count-taken (g .Q·Queue .pairs (c .loop .queue)) (p .0) (p .1) (h .0), ap count (h .1))
+    omega (arith, count-taken (g .Q·Queue .pairs (c .loop .queue)) (p .0) (p .1) (h .1), ap count (h .2))
 
 pub loop-again : need.loop-again
 loop-again g c =
     let h = c .in-Some .ensures tt in
-    (λ s. h .keeps (c .loop .inv .0 s), ap length (h .after .1) ∙ length-set _ _ _ ∙ c .loop .inv .1)
+    (λ s. h .keeps (c .loop .inv .0 s), ap length (h .after .2) ∙ length-set _ _ _ ∙ c .loop .inv .1)
 
 pub returns : need.returns
 returns g c =

@@ -55,33 +55,33 @@ returns g c =
     }
 
 pub offset-rows-i : need.offset-rows-i
-offset-rows-i g c = let m = c .loop-taken .inv .0 in omega (arith, m .sized .keyed (c .in-Some .taken .0) (c .in-Some .taken .1) (c .in-Some .ensures tt .after .0) .0, m .sized .tree .fits, m .sized .small)
+offset-rows-i g c = let m = c .loop-taken .inv .0 in omega (arith, m .sized .keyed (c .in-Some .taken .0) (c .in-Some .taken .1) (c .in-Some .ensures tt .after .1) .0, m .sized .tree .fits, m .sized .small)
 
 pub index-rows-i : need.index-rows-i
-index-rows-i g c = let m = c .loop-taken .inv .0 in omega (arith, m .sized .keyed (c .in-Some .taken .0) (c .in-Some .taken .1) (c .in-Some .ensures tt .after .0) .0, m .sized .tree .fits)
+index-rows-i g c = let m = c .loop-taken .inv .0 in omega (arith, m .sized .keyed (c .in-Some .taken .0) (c .in-Some .taken .1) (c .in-Some .ensures tt .after .1) .0, m .sized .tree .fits)
 
 pub index-rows-i-in-Some : need.index-rows-i-in-Some
-index-rows-i-in-Some g c = let m = c .loop-taken .inv .0 in omega (arith, m .sized .keyed (c .in-Some .taken .0) (c .in-Some .taken .1) (c .in-Some .ensures tt .after .0) .0, m .sized .tree .fits)
+index-rows-i-in-Some g c = let m = c .loop-taken .inv .0 in omega (arith, m .sized .keyed (c .in-Some .taken .0) (c .in-Some .taken .1) (c .in-Some .ensures tt .after .1) .0, m .sized .tree .fits)
 
 pub offset-rows-i-in-Some : need.offset-rows-i-in-Some
-offset-rows-i-in-Some g c = let m = c .loop-taken .inv .0 in omega (arith, m .sized .keyed (c .in-Some .taken .0) (c .in-Some .taken .1) (c .in-Some .ensures tt .after .0) .0, m .sized .tree .fits, m .sized .small)
+offset-rows-i-in-Some g c = let m = c .loop-taken .inv .0 in omega (arith, m .sized .keyed (c .in-Some .taken .0) (c .in-Some .taken .1) (c .in-Some .ensures tt .after .1) .0, m .sized .tree .fits, m .sized .small)
 
 pub index-rows-i-else-has-goal : need.index-rows-i-else-has-goal
-index-rows-i-else-has-goal g c = let m = c .loop-taken .inv .0 in omega (arith, m .sized .keyed (c .in-Some .taken .0) (c .in-Some .taken .1) (c .in-Some .ensures tt .after .0) .0, m .sized .tree .fits)
+index-rows-i-else-has-goal g c = let m = c .loop-taken .inv .0 in omega (arith, m .sized .keyed (c .in-Some .taken .0) (c .in-Some .taken .1) (c .in-Some .ensures tt .after .1) .0, m .sized .tree .fits)
 
 pub index-rows-i-else-has-goal-2 : need.index-rows-i-else-has-goal-2
-index-rows-i-else-has-goal-2 g c = let m = c .loop-taken .inv .0 in omega (arith, m .sized .keyed (c .in-Some .taken .0) (c .in-Some .taken .1) (c .in-Some .ensures tt .after .0) .0, m .sized .tree .fits)
+index-rows-i-else-has-goal-2 g c = let m = c .loop-taken .inv .0 in omega (arith, m .sized .keyed (c .in-Some .taken .0) (c .in-Some .taken .1) (c .in-Some .ensures tt .after .1) .0, m .sized .tree .fits)
 
 pub depth-length-requires : need.depth-length-requires
 depth-length-requires g c κs =
     let m = c .loop-taken .inv .0 in
-    let lt = m .sized .keyed (c .in-Some .taken .0) (c .in-Some .taken .1) (c .in-Some .ensures tt .after .0) .0 in
+    let lt = m .sized .keyed (c .in-Some .taken .0) (c .in-Some .taken .1) (c .in-Some .ensures tt .after .1) .0 in
     record { fits = (lt, m .sized .tree .fits); came = came-facts (problem (c .args .task .now)) (first (c .args .rows .now)) (c .loop-taken .rows) (c .loop-taken .used) (m .kept .base); low = m .kept .base .low (c .in-Some .taken .0) lt }
 
 pub trace-requires : need.trace-requires
 trace-requires g c κs =
     let m = c .loop-taken .inv .0 in
-    let lt = m .sized .keyed (c .in-Some .taken .0) (c .in-Some .taken .1) (c .in-Some .ensures tt .after .0) .0 in
+    let lt = m .sized .keyed (c .in-Some .taken .0) (c .in-Some .taken .1) (c .in-Some .ensures tt .after .1) .0 in
     record {
       fits = (lt, m .sized .tree .fits);
       came = came-facts (problem (c .args .task .now)) (first (c .args .rows .now)) (c .loop-taken .rows) (c .loop-taken .used) (m .kept .base);
@@ -103,8 +103,8 @@ returns-then-has-goal g c =
     let n = c .depth-length .result in
     let law = g .E·Estimator·met .admissible (c .args .est .now) p (c .pre .fits) in
     let v = g .E·Estimator .value (c .args .est .now) in
-    let lt = taken-within p s rows t used i k (inv .0) (h .after .0) in
-    let e = any rows i (c .index-rows-i .result) (in-rows p s rows t used i k (inv .0) (h .after .0)) in
+    let lt = taken-within p s rows t used i k (inv .0) (h .after .1) in
+    let e = any rows i (c .index-rows-i .result) (in-rows p s rows t used i k (inv .0) (h .after .1)) in
     let goal = subst (λ w. Goal p (standing (w .state))) e (c .has-goal .ensures .0 (c .if-has-goal .taken)) in
     let low = inv .0 .kept .base .low i lt in
     record {
@@ -112,9 +112,9 @@ returns-then-has-goal g c =
         says = record {
           fits = omega (arith, c .depth-length .ensures .low, low, inv .0 .sized .tree .fits, inv .3, c .pre .room);
           plan = subst (Plan p s) (sym (c .trace .ensures .front)) (back-plan p s rows used (inv .0 .kept .base) n i [] lt (c .depth-length .ensures .far) (tt, goal));
-          shortest = λ agrees sound acts plan. omega (arith, c .depth-length .ensures .low, taken-short p s rows t used i k (inv .0) (h .after .0) v law (inv .8 agrees) (h .least (inv .7 sound)) acts plan);
+          shortest = λ agrees sound acts plan. omega (arith, c .depth-length .ensures .low, taken-short p s rows t used i k (inv .0) (h .after .1) v law (inv .8 agrees) (h .least (inv .7 sound)) acts plan);
           rest = c .trace .ensures .rest ∙ ap (drop n) (inv .5);
-          taken = (i, goal-taken p s rows t used i k (inv .0) (h .after .0) (g .Q·Queue .sound (c .args .queue .now)) (λ sound. h .least (inv .7 sound)) goal n (c .depth-length .ensures .low));
+          taken = (i, goal-taken p s rows t used i k (inv .0) (h .after .1) (g .Q·Queue .sound (c .args .queue .now)) (λ sound. h .least (inv .7 sound)) goal n (c .depth-length .ensures .low));
           met = inv .0 .kept .met;
         };
         recorded = inv .0 .kept .base;
@@ -123,7 +123,7 @@ returns-then-has-goal g c =
         long = inv .3;
         fits = omega (arith, inv .0 .sized .tree .fits, inv .3);
         rest = inv .1;
-        space = ap length (h .after .1) ∙ length-set t i None ∙ inv .4;
+        space = ap length (h .after .2) ∙ length-set t i None ∙ inv .4;
       };
       leaves = inv .6;
       keeps = λ z. h .keeps (inv .7 z);
@@ -140,12 +140,12 @@ open-requires g c κs =
     let k = c .in-Some .taken .1 in
     let inv = c .loop-taken .inv in
     let h = c .in-Some .ensures tt in
-    let inside = in-rows p s rows t used i k (inv .0) (h .after .0) in
+    let inside = in-rows p s rows t used i k (inv .0) (h .after .1) in
     let e = any rows i (c .index-rows-i .result) inside in
     let f = any rows i (c .index-rows-i-in-Some .result) inside in
     let mid = set rows i (opened-row (getD rows i (c .index-rows-i-in-Some .result))) in
     let short = subst (λ w. Goal p (standing (w .state)) → ⊥) e (not-from-decides _ (c .has-goal .ensures) (c .if-has-goal .left)) in
-    let o = now-open p s rows t used i k (inv .0) (h .after .0) short mid (g .Q·Queue .pairs (c .take .last .self)) (ap (λ w. set rows i (opened-row w)) f) (h .after .1) in
+    let o = now-open p s rows t used i k (inv .0) (h .after .1) short mid (g .Q·Queue .pairs (c .take .last .self)) (ap (λ w. set rows i (opened-row w)) f) (h .after .2) in
     record { turn = subst (λ z. Turning p z (board mid (g .Q·Queue .pairs (c .take .last .self)) used) i 0) (sym (o .turn .turn .base .start)) (o .turn) }
 
 pub returns-then-not-open : need.returns-then-not-open
@@ -159,13 +159,13 @@ returns-then-not-open g c =
     let k = c .in-Some .taken .1 in
     let inv = c .loop-taken .inv in
     let h = c .in-Some .ensures tt in
-    let inside = in-rows p s rows t used i k (inv .0) (h .after .0) in
+    let inside = in-rows p s rows t used i k (inv .0) (h .after .1) in
     let e = any rows i (c .index-rows-i .result) inside in
     let f = any rows i (c .index-rows-i-in-Some .result) inside in
     let mid = set rows i (opened-row (getD rows i (c .index-rows-i-in-Some .result))) in
     let u = g .Q·Queue .pairs (c .take .last .self) in
     let short = subst (λ w. Goal p (standing (w .state)) → ⊥) e (not-from-decides _ (c .has-goal .ensures) (c .if-has-goal .left)) in
-    let o = now-open p s rows t used i k (inv .0) (h .after .0) short mid u (ap (λ w. set rows i (opened-row w)) f) (h .after .1) in
+    let o = now-open p s rows t used i k (inv .0) (h .after .1) short mid u (ap (λ w. set rows i (opened-row w)) f) (h .after .2) in
     let x = c .if-not-open .ensures tt in
     let start = o .turn .turn .base .start in
     let after = board (c .open .last .rows) (g .Q·Queue .pairs (c .open .last .queue)) (c .open .last .used) in
@@ -203,13 +203,13 @@ loop-taken-again g c =
     let k = c .in-Some .taken .1 in
     let inv = c .loop-taken .inv in
     let h = c .in-Some .ensures tt in
-    let inside = in-rows p s rows t used i k (inv .0) (h .after .0) in
+    let inside = in-rows p s rows t used i k (inv .0) (h .after .1) in
     let e = any rows i (c .index-rows-i .result) inside in
     let f = any rows i (c .index-rows-i-in-Some .result) inside in
     let mid = set rows i (opened-row (getD rows i (c .index-rows-i-in-Some .result))) in
     let u = g .Q·Queue .pairs (c .take .last .self) in
     let short = subst (λ w. Goal p (standing (w .state)) → ⊥) e (not-from-decides _ (c .has-goal .ensures) (c .if-has-goal .left)) in
-    let o = now-open p s rows t used i k (inv .0) (h .after .0) short mid u (ap (λ w. set rows i (opened-row w)) f) (h .after .1) in
+    let o = now-open p s rows t used i k (inv .0) (h .after .1) short mid u (ap (λ w. set rows i (opened-row w)) f) (h .after .2) in
     let x = c .if-not-open .ensures tt in
     let start = o .turn .turn .base .start in
     let after = board (c .open .last .rows) (g .Q·Queue .pairs (c .open .last .queue)) (c .open .last .used) in
@@ -243,13 +243,13 @@ loop-taken-less g c =
     let k = c .in-Some .taken .1 in
     let inv = c .loop-taken .inv in
     let h = c .in-Some .ensures tt in
-    let inside = in-rows p s rows t used i k (inv .0) (h .after .0) in
+    let inside = in-rows p s rows t used i k (inv .0) (h .after .1) in
     let e = any rows i (c .index-rows-i .result) inside in
     let f = any rows i (c .index-rows-i-in-Some .result) inside in
     let mid = set rows i (opened-row (getD rows i (c .index-rows-i-in-Some .result))) in
     let u = g .Q·Queue .pairs (c .take .last .self) in
     let short = subst (λ w. Goal p (standing (w .state)) → ⊥) e (not-from-decides _ (c .has-goal .ensures) (c .if-has-goal .left)) in
-    let o = now-open p s rows t used i k (inv .0) (h .after .0) short mid u (ap (λ w. set rows i (opened-row w)) f) (h .after .1) in
+    let o = now-open p s rows t used i k (inv .0) (h .after .1) short mid u (ap (λ w. set rows i (opened-row w)) f) (h .after .2) in
     let x = c .if-not-open .ensures tt in
     let start = o .turn .turn .base .start in
     let after = board (c .open .last .rows) (g .Q·Queue .pairs (c .open .last .queue)) (c .open .last .used) in

@@ -1,0 +1,3 @@
+// The whole law in one call: a session worked through any list of calls, and a search.
+pub mod whole;
+pub mod worked;
