@@ -1,6 +1,7 @@
 -- The whole law: sessions and searches, in the words of calls, tables and plans. Assumes nothing.
 --
 --   Shortest     what a search that was not refused says of plans
+--   Own-law      the same where the estimator is the session itself
 --   Whole-law    each answer of the session is right for the calls before it, and the search is right about plans
 use mathlib.Core.Path.{_≡_}
 use mathlib.Core.List.{List, [], _∷_}
@@ -15,6 +16,7 @@ use Rattle.search_theory.specs.Estimates.{Enough}
 use Rattle.search_law.specs.declared.outcome.Outcome.{Outcome}
 use Rattle.search_law.specs.declared.outcome.Outcome.the-variants.{Plan as Found, NoPlan, RowsFull}
 use Rattle.search_law.specs.declared.refusal.SearchRefusal.{SearchRefusal}
+use Rattle.search_law.specs.declared.refusal.SearchRefusal.the-variants.{EstimatorUnfit}
 use Rattle.search_law.specs.Law.{Searched}
 use Rattle.search_law.specs.Refusals.{Memory}
 
@@ -36,3 +38,9 @@ pub record Whole-law (p : Problem) (rule : Rule) (calls : List Call) (replies : 
   pub plans : Agrees → Searching → Shortest q s (length (before .rows)) (after .steps) r
   -- what the search answers in full, when it refuses, and what it leaves in memory
   pub search : Searched q s v Fits Agrees Searching before after r
+
+-- the same where the estimator is the session itself, under the max rule, after these calls: it fits its own task, and agrees
+pub record Own-law (p : Problem) (rule : Rule) (calls : List Call) (replies : List Reply) (s : State) (Opened Searching : Type 0) (before after : Memory) (r : Result Outcome SearchRefusal) : Type 0 where
+  pub answers : Opened → Rights p rule (fresh p) calls replies
+  pub plans : Opened → Searching → Shortest p s (length (before .rows)) (after .steps) r
+  pub fits : (r ≡ Err EstimatorUnfit) → ⊥

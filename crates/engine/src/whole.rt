@@ -38,16 +38,16 @@ pub fn work_and_search<R: CostRule, Q: Queue<Key = Figure>, E: Estimator, P: Que
     sought: &Task,
     start: &State,
     est: &mut E,
-    open: &mut P,
+    frontier: &mut P,
     rows: &mut [Row],
     steps: &mut [u16],
 ) -> Result<Worked<R, Q>, Unopened<R, Q>>
-    ensures law { λ r. ⌜ ByOk r (λ w. Whole-law (problem task) (R·CostRule .result rule) (map call-of (now (calls .entry))) (map reply-of (vec-items (w .answers))) (problem (now (sought .entry))) (standing (now (start .entry))) (E·Estimator .value (now (est .entry))) (E·Estimator .suits (now (est .entry)) (problem (now (sought .entry)))) (E·Estimator .agrees (now (est .entry))) (Q·Queue .sound queue) (P·Queue .sound (now (open .entry))) (memory (now (rows .entry)) (now (steps .entry)) (P·Queue .pairs (now (open .entry)))) (memory (now (rows .exit)) (now (steps .exit)) (P·Queue .pairs (now (open .exit)))) (w .outcome)) (Refusing (Q·Queue .pairs) task rule queue) ⌝ }
+    ensures law { λ r. ⌜ ByOk r (λ w. Whole-law (problem task) (R·CostRule .result rule) (map call-of (now (calls .entry))) (map reply-of (vec-items (w .answers))) (problem (now (sought .entry))) (standing (now (start .entry))) (E·Estimator .value (now (est .entry))) (E·Estimator .suits (now (est .entry)) (problem (now (sought .entry)))) (E·Estimator .agrees (now (est .entry))) (Q·Queue .sound queue) (P·Queue .sound (now (frontier .entry))) (memory (now (rows .entry)) (now (steps .entry)) (P·Queue .pairs (now (frontier .entry)))) (memory (now (rows .exit)) (now (steps .exit)) (P·Queue .pairs (now (frontier .exit)))) (w .outcome)) (Refusing (Q·Queue .pairs) task rule queue) ⌝ }
     ensures led { λ r. ⌜ (Q·Queue .sound queue → ByOk r (λ w. Led (R·CostRule .result) (Q·Queue .sound) (Q·Queue .pairs) (ended (problem task) (fresh (problem task)) (map call-of (now (calls .entry)))) (w .session)) (λ _. Unit {0})) ⌝ }
 {
     match Session::open_and_work(heap, task, rule, queue, calls) {
         Ok((session, answers)) => {
-            let outcome = search(sought, start, est, open, rows, steps);
+            let outcome = search(sought, start, est, frontier, rows, steps);
             Ok(Worked { session, answers, outcome })
         }
         Err(unopened) => Err(unopened),
