@@ -8,6 +8,7 @@ use settling::held::HeldFigures;
 use strips::state::State;
 
 // A task with its rule, the facts that stand, the figures held, and whether they are those of the facts that stand.
+#[derive(Drop)]
 pub struct Session<R, Q> {
     pub(crate) base: Base<R>,
     pub(crate) state: State,

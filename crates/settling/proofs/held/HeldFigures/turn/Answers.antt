@@ -34,7 +34,7 @@ returns-then-item-len g c =
       long = refl;
       after = λ sd fit k.
           absurd (omega (arith, c .if-item-len .taken, c .len .ensures, h .figures .ok .0,
-            inside F (vec-items (h .figures)) (vec-items (h .sides)) (g .Q·Queue .pairs (h .queue)) k (found .0) (found .1) (e .after .0) (omega (arith, h .level, h .figures .ok .0, h .sides .ok .0))));
+            inside F (vec-items (h .figures)) (vec-items (h .sides)) (g .Q·Queue .pairs (h .queue)) k (found .0) (found .1) (e .after .1) (omega (arith, h .level, h .figures .ok .0, h .sides .ok .0))));
     }
 
 pub returns-else-item-len : need.returns-else-item-len
@@ -60,13 +60,13 @@ returns-else-item-len g c =
       keeps = λ sd. c .refresh-all .ensures .keeps (c .adjust .ensures .keeps (e .keeps sd));
       long = ap (λ v. vec-len v) (c .refresh-all .ensures .held);
       after = λ sd fit k. record {
-        step = subst (λ (v : Figure). Step F held q v) (sym next) (stepped F held right (pairs (h .queue)) k q m (e .after .0) long (e .least sd));
+        step = subst (λ (v : Figure). Step F held q v) (sym next) (stepped F held right (pairs (h .queue)) k q m (e .after .1) long (e .least sd));
         before = before;
         after = ap vec-items (c .refresh-all .ensures .held);
         keeping =
             c .refresh-all .ensures .after (record { linked = fit .linked; long = fit .long })
-            (turned F held right (pairs (h .queue)) (pairs (c .take .last .self)) (pairs (c .adjust .last .queue)) q f (names (c .readers .result .now)) within k (e .after .1)
-              (c .adjust .ensures .after (omega (arith, within, k .room, ap length (e .after .1) ∙ length-set (pairs (h .queue)) q option.None)) ∙ ap (λ v. set (pairs (c .take .last .self)) q (due f v)) side)
+            (turned F held right (pairs (h .queue)) (pairs (c .take .last .self)) (pairs (c .adjust .last .queue)) q f (names (c .readers .result .now)) within k (e .after .2)
+              (c .adjust .ensures .after (omega (arith, within, k .room, ap length (e .after .2) ∙ length-set (pairs (h .queue)) q option.None)) ∙ ap (λ v. set (pairs (c .take .last .self)) q (due f v)) side)
               (read-stale rule p (standing (c .args .state .now)) held q f (c .readers .result .now)
                 (λ r a. ap (λ (l : List ℕ). names l r) (c .readers .ensures) ∙ fit .linked .readers q r (omega (arith, within, fit .long, h .figures .ok .0)) a)));
       };
