@@ -45,6 +45,7 @@ impl Links {
     pub fn of(heap: Global, task: &Task) -> Result<Links, AllocError>
         ensures { λ r. ⌜ made r (Linked (problem (now (task .entry)))) ⌝ }
     {
+        // Every task is lawful, which this call's promise says: so an action needs facts alone.
         let _ = task.facts();
         let adders = all_adders(heap, task)?;
         let readers = all_readers(heap, task)?;
