@@ -19,6 +19,8 @@ use std::io::Read;
 use strips::task::Task;
 use tasktext::text::read_task;
 use textfault::fault::ReadFault;
+use wording::refusal::Refusal;
+use wording::refusal::RefusalDisplay;
 use words::tell;
 
 const HELP: &str = "figures: keeps the figures of a task up to date as facts come and go.
@@ -62,10 +64,8 @@ fn run(rt: &LibcRuntime) -> Result<(), AnyError> {
     match read_task(rt.alloc(), text.as_slice()) {
         Ok(task) => work(rt, task, calls.as_slice()),
         Err(ReadFault::Text(fault)) => {
-            let number = fault.number();
-            let line = fault.place().line;
-            println!(rt, "text refused {number} at line {line}")?;
-            Err("the text is no task".into())
+            let refusal = Refusal(fault);
+            Ok(println!(rt, "{refusal}")?)
         }
         Err(ReadFault::Memory) => Err("no memory for a task".into()),
     }

@@ -1,23 +1,11 @@
 // Calls, answers and docket rows in words.
-use figure::figure::Figure;
 use session::call::Answer;
 use session::call::Call;
 use session::fault::SessionFault;
 use settling::row::DocketRow;
 use std::error::AnyError;
-use std::fmt;
-
-#[derive(Clone, Copy)]
-struct Words(Figure);
-
-impl fmt::Display for Words as WordsDisplay {
-    fn fmt<W: fmt::Write>(&self, f: &mut fmt::Formatter<W>) -> fmt::Result {
-        match self.0.number() {
-            Some(number) => write!(f, "{number}"),
-            None => write!(f, "none"),
-        }
-    }
-}
+use wording::words::Words;
+use wording::words::WordsDisplay;
 
 fn tell_call(rt: &LibcRuntime, call: Call) -> Result<(), AnyError> {
     match call {

@@ -10,7 +10,8 @@ use strips::state::State;
 use strips::task::Task;
 use tasktext::text::read_task;
 use textfault::fault::ReadFault;
-use words::tell_fault;
+use wording::refusal::Refusal;
+use wording::refusal::RefusalDisplay;
 use words::tell_verdict;
 
 // An argument: a step, or the end of a list of steps.
@@ -60,7 +61,10 @@ fn run(rt: &LibcRuntime) -> Result<(), AnyError> {
     rt.stdin().read_to_end(&mut text)?;
     match read_task(rt.alloc(), text.as_slice()) {
         Ok(task) => try_all(rt, &task, words.as_slice()),
-        Err(ReadFault::Text(fault)) => tell_fault(rt, fault),
+        Err(ReadFault::Text(fault)) => {
+            let refusal = Refusal(fault);
+            Ok(println!(rt, "{refusal}")?)
+        }
         Err(ReadFault::Memory) => Err("no memory for a task".into()),
     }
 }

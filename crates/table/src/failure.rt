@@ -1,30 +1,16 @@
 // Why the program ends with status 1.
-use crate::refusal::Refusal;
-use crate::refusal::RefusalDisplay;
 use std::alloc::AllocError;
 use std::fmt;
 use std::io;
-use textfault::fault::ReadFault;
 
 #[derive(Drop)]
 pub enum Failure {
     // Arguments other than --help.
     Arguments,
-    // The text is refused.
-    Text(Refusal),
     // There is no memory.
     Memory,
     // The input cannot be read, or the output not written.
     Io(io::Error),
-}
-
-pub impl From<ReadFault> for Failure as FailureFromRead {
-    fn from(e: ReadFault) -> Failure {
-        match e {
-            ReadFault::Memory => Failure::Memory,
-            ReadFault::Text(fault) => Failure::Text(Refusal(fault)),
-        }
-    }
 }
 
 pub impl From<AllocError> for Failure as FailureFromAlloc {
@@ -46,7 +32,6 @@ pub impl fmt::Display for Failure as FailureDisplay {
                 f,
                 "the only argument is --help; the task text comes from standard input"
             ),
-            Failure::Text(refusal) => write!(f, "{refusal}"),
             Failure::Memory => write!(f, "out of memory"),
             Failure::Io(e) => write!(f, "{e}"),
         }

@@ -1,15 +1,12 @@
 // Reads a task text from standard input and prints its table of figures under both cost rules.
 mod column;
 mod failure;
-mod refusal;
-mod words;
 
 use column::column_of;
 use failure::Failure;
 use failure::FailureDisplay;
 use failure::FailureFromAlloc;
 use failure::FailureFromIo;
-use failure::FailureFromRead;
 use figure::figure::Figure;
 use rules::additive::AdditiveCost;
 use rules::additive::AdditiveRule;
@@ -19,8 +16,11 @@ use std::env;
 use std::io::Read;
 use strips::task::Task;
 use tasktext::text::read_task;
-use words::Words;
-use words::WordsDisplay;
+use textfault::fault::ReadFault;
+use wording::refusal::Refusal;
+use wording::refusal::RefusalDisplay;
+use wording::words::Words;
+use wording::words::WordsDisplay;
 
 const HELP: &str = "table: prints the table of figures of a task.
 
@@ -29,9 +29,9 @@ usage: table < TASK
 Reads a task text from standard input. Prints a line for each fact and each
 action, with its figure by the additive rule and by the max rule where the
 task's start facts stand, and then both goal figures. A figure is a number, or
-none for what is out of reach. A refused text is told on standard error, with
-the refusal's number, the line, the place and what is wrong; the status is
-then 1.";
+none for what is out of reach. A refused text is told with the refusal's
+number, the line, the place and what is wrong. The status is 1 only where the
+job could not be done.";
 
 fn print_items(
     rt: &impl Print,
@@ -83,8 +83,14 @@ fn run(rt: &LibcRuntime) -> Result<(), Failure> {
     }
     let mut text = Vec::new(rt.alloc());
     rt.stdin().read_to_end(&mut text)?;
-    let task = read_task(rt.alloc(), &text)?;
-    print_table(rt, &task)
+    match read_task(rt.alloc(), &text) {
+        Ok(task) => print_table(rt, &task),
+        Err(ReadFault::Text(fault)) => {
+            let refusal = Refusal(fault);
+            Ok(println!(rt, "{refusal}")?)
+        }
+        Err(ReadFault::Memory) => Err(Failure::Memory),
+    }
 }
 
 fn main(rt: LibcRuntime) -> Result<(), Failure> {
