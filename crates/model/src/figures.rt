@@ -1,5 +1,4 @@
 // The theory of figures: one function for each theorem.
-ghost use Rattle.model.specs.FigureExamples.{Worked-figures};
 ghost use Rattle.model.specs.Figures.{Compares, One-table, Both-lawful, Parity};
 ghost use Rattle.model.specs.Heuristics.{Heuristics, Admissible};
 ghost use Rattle.model.specs.Runs.{Fresh-start};
@@ -78,13 +77,6 @@ pub fn heuristics_agree() -> u8
 // The max rule's goal figure is at most the length of every plan, and none only where there is no plan.
 pub fn admissible() -> u8
     ensures { λ _. ⌜ Admissible ⌝ }
-{
-    0
-}
-
-// The worked examples of figures hold of the definitions.
-pub fn worked_figures() -> u8
-    ensures { λ _. ⌜ Worked-figures ⌝ }
 {
     0
 }
