@@ -8,6 +8,6 @@ use session::unopened::Unopened;
 pub enum Halted<Q> {
     // The session was not opened; all is given back.
     Unopened(Unopened<MaxRule, Q>),
-    // The calls were worked, and then there was no memory for the search's docket.
-    NoDocket(Session<MaxRule, Q>, Vec<Answer>),
+    // The calls were worked, and then there was no memory for the search.
+    NoMemory(Session<MaxRule, Q>, Vec<Answer>),
 }

@@ -11,18 +11,21 @@ use Rattle.engine.proofs.by_session.work_and_search_by_session.Needs as need
 
 pub returns : need.returns
 returns g c =
-    let twin = problem (c .in-Ok .twin) in
+    let twin = problem (c .in-Ok-twin .twin) in
     let s = standing (c .args .start .now) in
-    let session = c .in-Ok-open-and-work .session in
+    let session = c .in-Ok .session in
     let made = c .in-Ok-new .made in
     let same : made .session ≡ session = c .in-Ok-new .ensures tt in
-    let is-twin : twin ≡ problem (c .args .task) = c .in-Ok .ensures tt in
-    let own : twin ≡ task-of (made .session) = is-twin ∙ ap problem (sym (c .in-Ok-open-and-work .ensures tt .opens .on-task)) ∙ ap task-of (sym same) in
+    let own : twin ≡ task-of session = c .in-Ok-twin .ensures tt ∙ ap problem (c .task .ensures) in
+    let is-twin : twin ≡ problem (c .args .task) = own ∙ ap problem (c .in-Ok .ensures tt .opens .on-task) in
     record {
-      answers = c .in-Ok-open-and-work .ensures tt .law;
-      plans = λ sound frontier.
-          subst (λ p. Shortest p s (length (c .args .rows .now)) (c .search-outcome .last .steps) (c .search-outcome .result)) is-twin
-            (shortest twin s (distance (task-of (made .session))) _ _ _ _ _ (c .search-outcome .result) (c .search-outcome .ensures .law)
-              (subst (Sound (λ _. max-rule) (g .Q·Queue .sound) (g .Q·Queue .pairs)) (sym same) (c .in-Ok-open-and-work .ensures tt .led sound .sound)) frontier);
-      fits = never-unfit twin s (distance (task-of (made .session))) _ _ _ _ _ (c .search-outcome .result) (c .search-outcome .ensures .law) own;
+      law = record {
+        answers = c .in-Ok .ensures tt .law;
+        plans = λ sound frontier.
+            subst (λ p. Shortest p s (length (c .args .rows .now)) (c .search-outcome .last .steps) (c .search-outcome .result)) is-twin
+              (shortest twin s (distance (task-of (made .session))) _ _ _ _ _ (c .search-outcome .result) (c .search-outcome .ensures .law)
+                (subst (Sound (λ _. max-rule) (g .Q·Queue .sound) (g .Q·Queue .pairs)) (sym same) (c .in-Ok .ensures tt .led sound .sound)) frontier);
+        fits = never-unfit twin s (distance (task-of (made .session))) _ _ _ _ _ (c .search-outcome .result) (c .search-outcome .ensures .law) (own ∙ ap task-of (sym same));
+      };
+      halted = tt;
     }
