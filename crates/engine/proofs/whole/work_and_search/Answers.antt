@@ -1,3 +1,4 @@
+use mathlib.Core.Path.{refl}
 use Rattle.strips.specs.Standing.{standing}
 use Rattle.strips.specs.Tasks.{problem}
 use Rattle.engine.proofs.Shortness.{shortest}
@@ -11,7 +12,9 @@ returns-in-Ok g c = record {
     search = c .search-outcome .ensures .law;
   };
   led = c .in-Ok .ensures tt .led;
+  estimator = c .search-outcome .ensures .leaves;
+  untouched = tt;
 }
 
 pub returns-in-Err : need.returns-in-Err
-returns-in-Err g c = record { law = c .in-Err .ensures tt .opens; led = λ _. tt }
+returns-in-Err g c = record { law = c .in-Err .ensures tt .opens; led = λ _. tt; estimator = tt; untouched = (refl, refl, refl, refl) }
