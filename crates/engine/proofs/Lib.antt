@@ -1,2 +1,1 @@
 pub mod Shortness
-pub mod Carrying

@@ -7,7 +7,6 @@ use Rattle.std.specs.Prelude.{◌≡◌, ℕ, ◌≤◌, List, [], ◌∷◌, le
 use Rattle.model.specs.Strips.{Problem, State, Plan}
 use Rattle.model.specs.Figures.{Rule}
 use Rattle.model.specs.Runs.{Call, Reply, fresh, Rights}
-use Rattle.session_estimator.specs.Estimating.{distance}
 use Rattle.search_theory.specs.Estimates.{Enough}
 use Rattle.search_law.specs.declared.outcome.Outcome.{Outcome}
 use Rattle.search_law.specs.declared.outcome.Outcome.TheVariants.{Plan as Found, NoPlan, RowsFull}
@@ -35,10 +34,8 @@ pub record WholeLaw (p : Problem) (rule : Rule) (calls : List Call) (replies : L
   -- what the search answers in full, when it refuses, and what it leaves in memory
   pub search : Searched q s v Fits Agrees Searching before after r
 
--- the same where the estimator is the session itself, under the max rule, after these calls: it fits its own task, its function
--- is the max rule's goal figure, and it agrees if the session's queue was sound
+-- the same where the estimator is the session itself, under the max rule, after these calls: it fits its own task, and agrees
 pub record OwnLaw (p : Problem) (rule : Rule) (calls : List Call) (replies : List Reply) (s : State) (Opened Searching : Type 0) (before after : Memory) (r : Result Outcome SearchRefusal) : Type 0 where
   pub answers : Opened → Rights p rule (fresh p) calls replies
   pub plans : Opened → Searching → Shortest p s (length before.rows) after.steps r
-  pub search : Searched p s (distance p) (Unit {0}) Opened Searching before after r
   pub fits : (r ≡ Err EstimatorUnfit) → ⊥

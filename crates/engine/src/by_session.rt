@@ -1,11 +1,11 @@
 // A search by the very session that was worked.
-ghost use Rattle.std.specs.Prelude.{◌≡◌, map, IfOk, IfErr, OnErr};
+ghost use Rattle.std.specs.Prelude.{map, IfOk, IfErr};
 ghost use Rattle.model.specs.Figures.{max_rule};
 ghost use Rattle.strips.specs.Standing.{standing};
 ghost use Rattle.strips.specs.Tasks.{problem};
 ghost use Rattle.session.specs.Works.{call_of, reply_of};
 ghost use Rattle.search_law.specs.Refusals.{memory};
-ghost use Rattle.engine.specs.Halts.{WorkedBy, Carried, Halting};
+ghost use Rattle.engine.specs.Halts.{Halting};
 ghost use Rattle.engine.specs.Whole.{OwnLaw};
 
 use crate::halted::Halted;
@@ -35,11 +35,7 @@ pub fn work_and_search_by_session<Q: Queue<Key = Figure>, P: Queue<Key = Pair>>(
     steps: &mut [u16],
 ) -> Result<Worked<MaxRule, Q>, Halted<Q>>
     ensures law { IfOk result (λ w. OwnLaw (problem task) max_rule (map call_of calls.now) (map reply_of w.answers.items) (standing start.now) (Q.Queue.sound queue) (P.Queue.sound frontier.old) (memory rows.old steps.old (P.Queue.pairs frontier.old)) (memory rows.new steps.new (P.Queue.pairs frontier.new)) w.outcome) }
-    ensures session { IfOk result (λ w. Carried Q.Queue.sound Q.Queue.pairs task queue (map call_of calls.now) w.session) }
-    ensures refusal { IfOk result (λ w. OnErr w.outcome (WorkedBy Q.Queue.sound Q.Queue.pairs task queue (map call_of calls.now) w.session × (frontier.new ≡ frontier.old))) }
     ensures halted { IfErr result (Halting Q.Queue.sound Q.Queue.pairs task queue (map call_of calls.now)) }
-    ensures untouched { OnErr result ((frontier.new ≡ frontier.old) × (rows.new ≡ rows.old) × (steps.new ≡ steps.old)) }
-    ensures keeps { P.Queue.sound frontier.old → P.Queue.sound frontier.new }
 {
     match Session::open_and_work(heap, task, MaxRule, queue, calls) {
         Err(unopened) => Err(Halted::Unopened(unopened)),

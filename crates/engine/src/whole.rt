@@ -5,7 +5,7 @@ ghost use Rattle.strips.specs.Standing.{standing};
 ghost use Rattle.strips.specs.Tasks.{problem};
 ghost use Rattle.session.specs.Laws.{Led};
 ghost use Rattle.session.specs.Openings.{Refusing};
-ghost use Rattle.session.specs.Works.{call_of, reply_of, On};
+ghost use Rattle.session.specs.Works.{call_of, reply_of};
 ghost use Rattle.estimator.specs.Meanings.{Leaves};
 ghost use Rattle.search_law.specs.Refusals.{memory};
 ghost use Rattle.engine.specs.Whole.{WholeLaw};
@@ -42,10 +42,7 @@ pub fn work_and_search<R: CostRule, Q: Queue<Key = Figure>, E: Estimator, P: Que
 ) -> Result<Worked<R, Q>, Unopened<R, Q>>
     ensures law { MatchResult result (λ w. WholeLaw (problem task) (R.CostRule.result rule) (map call_of calls.now) (map reply_of w.answers.items) (problem sought.now) (standing start.now) (E.Estimator.value est.old) (E.Estimator.suits est.old (problem sought.now)) (E.Estimator.agrees est.old) (Q.Queue.sound queue) (P.Queue.sound frontier.old) (memory rows.old steps.old (P.Queue.pairs frontier.old)) (memory rows.new steps.new (P.Queue.pairs frontier.new)) w.outcome) (Refusing Q.Queue.pairs task rule queue) }
     ensures led { Q.Queue.sound queue → IfOk result (λ w. Led R.CostRule.result Q.Queue.sound Q.Queue.pairs (ended (problem task) (fresh (problem task)) (map call_of calls.now)) w.session) }
-    ensures session { IfOk result (λ w. On Q.Queue.pairs task rule queue w.session) }
-    ensures refusal { IfOk result (λ w. OnErr w.outcome ((est.new ≡ est.old) × (frontier.new ≡ frontier.old))) }
-    ensures keeps { P.Queue.sound frontier.old → P.Queue.sound frontier.new }
-    ensures estimator { OnOk result (Leaves E.Estimator.suits E.Estimator.value E.Estimator.agrees E.Estimator.leads est.old est.new) }
+    ensures estimator { OnOk result (Leaves E.Estimator.suits E.Estimator.value E.Estimator.agrees est.old est.new) }
     ensures untouched { OnErr result ((est.new ≡ est.old) × (frontier.new ≡ frontier.old) × (rows.new ≡ rows.old) × (steps.new ≡ steps.old)) }
 {
     match Session::open_and_work(heap, task, rule, queue, calls) {

@@ -1,5 +1,4 @@
 // The estimator that knows nothing.
-ghost use Rattle.std.specs.Prelude.{◌≡◌};
 ghost use Rattle.std.proofs.Common.{rules};
 
 use crate::estimator::Estimator;
@@ -17,12 +16,6 @@ impl Estimator for Blind {
     ghost value = { λ _ _. 0 };
 
     ghost agrees = { λ _. Unit {0} };
-
-    ghost leads = { λ e f. f ≡ e };
-
-    ghost stays = { Prim.search rules };
-
-    ghost onward = { Prim.search rules };
 
     ghost admissible = { Prim.search rules };
 

@@ -22,9 +22,6 @@ pub trait Estimator: Sized {
     // Whether what it keeps agrees with that function. Each is made agreeing, out of agreeing ones.
     ghost agrees: { Self → Type 0 };
 
-    // Whether asks, any number of them, lead from the one to the other.
-    ghost leads: { Self → Self → Type 0 };
-
     // Whether the task fits, which its meaning decides.
     fn fits(&self, task: &Task) -> bool
         ensures { Decides result (suits self.now (problem task.now)) };
@@ -32,11 +29,7 @@ pub trait Estimator: Sized {
     // How far the goal is at least: asked of an agreeing one, the function's figure.
     fn estimate(&mut self, state: &State) -> Figure
         ensures figure { agrees self.old → rank result ≡ value self.old (standing state.now) }
-        ensures leaves { Leaves suits value agrees leads self.old self.new };
-
-    ghost stays: { (e : Self) → leads e e };
-
-    ghost onward: { (d e f : Self) → leads d e → leads e f → leads d f };
+        ensures leaves { Leaves suits value agrees self.old self.new };
 
     // For a problem that fits, at most the length of every plan, and so none only where there is no plan.
     ghost admissible: { (e : Self) (p : Problem) → suits e p → AdmissibleOn p (value e) };

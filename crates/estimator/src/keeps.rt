@@ -4,7 +4,6 @@ ghost use Rattle.figure.specs.Ranks.{rank};
 ghost use Rattle.strips.specs.Standing.{standing};
 ghost use Rattle.estimator.specs.Meanings.{Leaves};
 ghost use Rattle.estimator.specs.Keeps.{kept, Asked, Agreeing};
-ghost use Rattle.std.proofs.Common.{rules, arith};
 
 use crate::estimator::Estimator;
 use crate::keeping::{Keeping, Kept};
@@ -37,13 +36,6 @@ impl<E: Estimator> Estimator for Keeping<E> {
 
     ghost agrees = { Agreeing E.Estimator.agrees E.Estimator.value };
 
-    // A kept figure is told without asking the inner one.
-    ghost leads = { λ k l. E.Estimator.leads k.inner l.inner };
-
-    ghost stays = { first_of (Prim.search rules, Prim.grind (arith, Self.row.coded.inj)) };
-
-    ghost onward = { λ d e f a b. E.Estimator.onward d.inner e.inner f.inner a b };
-
     ghost admissible = { λ e. E.Estimator.admissible e.inner };
 
     fn fits(&self, task: &Task) -> bool {
@@ -53,7 +45,7 @@ impl<E: Estimator> Estimator for Keeping<E> {
     // A kept state's figure is answered without asking again.
     fn estimate(&mut self, state: &State) -> Figure
         ensures figure { Agreeing E.Estimator.agrees E.Estimator.value self.old → rank result ≡ E.Estimator.value self.old.inner (standing state.now) }
-        ensures leaves { Leaves (λ k. E.Estimator.suits k.inner) (λ k. E.Estimator.value k.inner) (Agreeing E.Estimator.agrees E.Estimator.value) (λ k l. E.Estimator.leads k.inner l.inner) self.old self.new }
+        ensures leaves { Leaves (λ k. E.Estimator.suits k.inner) (λ k. E.Estimator.value k.inner) (Agreeing E.Estimator.agrees E.Estimator.value) self.old self.new }
         ensures keeps { Asked (kept self.old) state.now result (kept self.new) }
     {
         if let Some(at) = place(&self.slots, self.count, state) {

@@ -1,7 +1,7 @@
 // The larger figure of two estimators.
 ghost use Rattle.std.specs.Prelude.{◌≡◌, max};
 ghost use Rattle.figure.specs.Ranks.{rank};
-ghost use Rattle.std.proofs.Common.{arith, rules};
+ghost use Rattle.std.proofs.Common.{arith};
 
 use crate::estimator::Estimator;
 use figure::figure::Figure;
@@ -37,15 +37,6 @@ impl<P: Estimator, Q: Estimator> Estimator for Larger<P, Q> {
     ghost value = { λ e s. max (P.Estimator.value e.first s) (Q.Estimator.value e.second s) };
 
     ghost agrees = { λ e. P.Estimator.agrees e.first × Q.Estimator.agrees e.second };
-
-    ghost leads = { λ e f. P.Estimator.leads e.first f.first × Q.Estimator.leads e.second f.second };
-
-    ghost stays = { Prim.search rules };
-
-    ghost onward = { λ d e f a b. (
-      P.Estimator.onward d.first e.first f.first a.0 b.0,
-      Q.Estimator.onward d.second e.second f.second a.1 b.1,
-    ) };
 
     ghost admissible = { λ e p fits s acts plan.
         let a = P.Estimator.admissible e.first p fits.0 s acts plan in

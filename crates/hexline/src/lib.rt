@@ -1,4 +1,3 @@
 // Reading a text line by line: each line's digits as a part of the text, or the line's first fault.
-mod digits;
 pub mod line;
 pub mod reader;

@@ -15,5 +15,4 @@ pub mod Plans
 pub mod Counts
 pub mod WorkedTables
 pub mod WorkedFigures
-pub mod WorkedRuns
 pub mod Passing

@@ -6,5 +6,4 @@ pub mod Docket
 pub mod Settling
 pub mod Heuristics
 pub mod FigureExamples
-pub mod RunExamples
 pub mod Runs

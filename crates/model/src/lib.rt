@@ -4,7 +4,6 @@ pub mod figures;
 ghost use Rattle.model.specs.Examples.{Worked};
 ghost use Rattle.model.specs.FigureExamples.{WorkedFigures};
 ghost use Rattle.model.specs.Rehearsals.{Verdicts};
-ghost use Rattle.model.specs.RunExamples.{WorkedRuns};
 
 // A rehearsal's answer is given exactly where what it says is so.
 pub fn verdicts() -> u8
@@ -13,9 +12,9 @@ pub fn verdicts() -> u8
     0
 }
 
-// The worked examples of plans, of figures and of a session's run hold of the definitions.
+// The worked examples of plans and of figures hold of the definitions.
 pub fn worked_examples() -> u8
-    ensures { Worked × WorkedFigures × WorkedRuns }
+    ensures { Worked × WorkedFigures }
 {
     0
 }

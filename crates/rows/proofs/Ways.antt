@@ -6,7 +6,7 @@ use Rattle.model.specs.Strips.{State as Facts}
 use Rattle.strips.specs.Standing.{standing}
 use Rattle.rows.specs.declared.row.Row.{Row}
 use Rattle.rows.specs.Rows.{blank, bare}
-use Rattle.rows.specs.Lookups.{link, state_at, next, Way, here, down, Later, Tree, Seated, Leaf, Branch, linked, Alike, Numbers, Written}
+use Rattle.rows.specs.Lookups.{link, state_at, next, Way, here, down, Later, Tree, Seated, Leaf, linked, Alike, Numbers, Written}
 
 -- what holds of j, and of each other, holds of each
 pub split : (j : ℕ) (P : ℕ → Type 0) → P j → ((k : ℕ) → (k ≡ j → ⊥) → P k) → (k : ℕ) → P k
@@ -157,11 +157,8 @@ module _ (rows : List Row) (under used : ℕ) (row : Row) (f : ℕ) (nums : Numb
           (λ k ne kl. later_more used k _ (t.on k kl));
     }
 
-  pub hung_written : Branch w s f → Written rows under used row after
-  hung_written branch = let how : (f ≡ w.fact) ⊎ Leaf w = ⊎_elim (λ l. inr l.0) (λ k. inl k.1) branch in record {
-    fact = f;
-    branches = branch;
-    is = refl;
+  pub hung_written : (f ≡ w.fact) ⊎ Leaf w → Written rows under used row after
+  hung_written how = record {
     alike = hung_alike;
     rest = λ k lt. elsewhere k (λ e. omega (arith, nums.earlier)) (λ e. omega arith);
     tree = hung_tree how;

@@ -5,7 +5,6 @@
 --   Tree     each row in use is found by its state
 --   Seated   a row of a state may hang under a row
 --   Looked   what a look-up answers
---   Branch   the fact by which look-ups branch at a row
 --   linked   a row with one link more
 --   Alike    the same rows but for their links
 --   Hung     what writing and linking a row leaves
@@ -62,14 +61,6 @@ pub record Looked (rows : List Row) (used : ℕ) (s : Facts) (r : Seat) : Type 0
 abbrev pub Leaf : Row → Type 0
 Leaf w = (w.off ≡ 0) × (w.on ≡ 0)
 
--- f tells the row's state from s, unless no fact does
-abbrev pub Tells : Row → Facts → ℕ → Type 0
-Tells w s f = standing w.state f ≡ s f → (k : ℕ) → k < 256 → standing w.state k ≡ s k
-
--- look-ups of s branch at the row by the fact f: where one goes on from it already, by its own; else by one that tells its state from s
-abbrev pub Branch : Row → Facts → ℕ → Type 0
-Branch w s f = (Leaf w × Tells w s f) ⊎ ((Leaf w → ⊥) × (f ≡ w.fact))
-
 -- the row with a link to n for look-ups of s, branching by the fact f
 abbrev pub linked : Row → Facts → ℕ → ℕ → Row
 linked w s f n =
@@ -86,11 +77,8 @@ pub record Numbers (rows : List Row) (under number : ℕ) : Type 0 where
   pub within : number < length rows
   pub small : number ≤ 65535
 
--- the row is written without links, the earlier row gets a link to it, and nothing else changes; so it is found
+-- the row is written and nothing else changes but a link under which it is found
 pub record Written (rows : List Row) (under number : ℕ) (row : Row) (after : List Row) : Type 0 where
-  pub fact : ℕ
-  pub branches : Branch (slice_index_or rows under blank) (standing row.state) fact
-  pub is : after ≡ slice_set (slice_set rows number (bare row)) under (linked (slice_index_or rows under blank) (standing row.state) fact number)
   pub alike : Alike (slice_set rows number row) after
   pub rest : (k : ℕ) → number < k → slice_index_or after k blank ≡ slice_index_or rows k blank
   pub tree : Tree rows number → Seated rows (standing row.state) under → Tree after (number + 1)

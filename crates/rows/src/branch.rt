@@ -1,15 +1,13 @@
 // How the way of a look-up branches at a row.
-ghost use Rattle.std.specs.Prelude.{◌≡◌, ℕ, ◌<◌};
+ghost use Rattle.std.specs.Prelude.{◌≡◌, ◌⊎◌};
 ghost use Rattle.strips.specs.Standing.{standing};
-ghost use Rattle.rows.specs.Lookups.{link, linked, Branch};
+ghost use Rattle.rows.specs.Lookups.{link, linked, Leaf};
 
 use crate::row::Row;
 use strips::state::State;
 
-// A fact that stands in one state only, if there is one. Any fact would do to find rows; this one keeps look-ups short.
-fn differing(left: &State, right: &State) -> u8
-    ensures { standing left.now result ≡ standing right.now result → (k : ℕ) → k < 256 → standing left.now k ≡ standing right.now k }
-{
+// A fact that stands in one state only. Any fact would do; this one keeps look-ups short.
+fn differing(left: &State, right: &State) -> u8 {
     for fact in 0..=255 {
         if left.stands(fact) != right.stands(fact) {
             return fact;
@@ -32,7 +30,7 @@ impl Row {
 
     // The fact by which look-ups branch here; it is chosen when the first link is made.
     pub(crate) fn branch(&self, state: &State) -> u8
-        ensures { Branch self.now (standing state.now) result }
+        ensures { (result ≡ self.now.fact) ⊎ Leaf self.now }
     {
         if self.off == 0 && self.on == 0 {
             differing(&self.state, state)

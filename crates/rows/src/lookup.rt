@@ -1,15 +1,14 @@
 // Looking states up among rows, and linking new rows.
-ghost use Rattle.std.specs.Prelude.{◌≡◌, ℕ, ◌<◌, true, length};
+ghost use Rattle.std.specs.Prelude.{◌≡◌, ℕ};
 ghost use Rattle.strips.specs.Standing.{standing};
-ghost use Rattle.rows.specs.Lookups.{state_at, Tree, Looked, Hung};
+ghost use Rattle.rows.specs.Lookups.{Tree, Looked, Hung};
 
 use crate::row::{Row, Seat};
 use strips::state::State;
 
 // Where the state is among the rows, or belongs. Links lead on to later rows, so that every look-up ends.
 pub fn find(rows: &[Row], state: &State) -> Seat
-    ensures found { result.found ≡ true → (result.at < length rows.now) × (state_at rows.now result.at ≡ standing state.now) }
-    ensures looked { (used : ℕ) → Tree rows.now used → Looked rows.now used (standing state.now) result }
+    ensures { (used : ℕ) → Tree rows.now used → Looked rows.now used (standing state.now) result }
 {
     let mut i = 0;
     while i < rows.len() {

@@ -54,7 +54,7 @@ fn add<E: Estimator, Q: Queue<Key = Pair>>(
     requires space { length rows.old ≤ length (Q.Queue.pairs queue.old) }
     requires small { (from < 65536) × (action < 65536) × ((slice_index_or rows.old from blank).steps < 65535) }
     ensures keeps { Q.Queue.sound queue.old → Q.Queue.sound queue.new }
-    ensures leaves { Leaves E.Estimator.suits E.Estimator.value E.Estimator.agrees E.Estimator.leads est.old est.new }
+    ensures leaves { Leaves E.Estimator.suits E.Estimator.value E.Estimator.agrees est.old est.new }
     ensures after { Added (E.Estimator.value est.old) (E.Estimator.agrees est.old) from action under number next.now rows.old rows.new (Q.Queue.pairs queue.old) (Q.Queue.pairs queue.new) }
 {
     let steps = rows[from].steps + 1;
@@ -82,7 +82,7 @@ fn successor<E: Estimator, Q: Queue<Key = Pair>>(
     requires few { action < 65536 }
     ensures turn { MatchBool result (Turning (problem task.now) (first rows.old) (board rows.new (Q.Queue.pairs queue.new) used.new) i (action + 1)) (Overfull (problem task.now) (first rows.old) (board rows.new (Q.Queue.pairs queue.new) used.new) i action) }
     ensures moves { Moves (problem task.now) (first rows.old) (E.Estimator.value est.old) (E.Estimator.agrees est.old) (board rows.old (Q.Queue.pairs queue.old) used.old) (board rows.new (Q.Queue.pairs queue.new) used.new) }
-    ensures leaves { Leaves E.Estimator.suits E.Estimator.value E.Estimator.agrees E.Estimator.leads est.old est.new }
+    ensures leaves { Leaves E.Estimator.suits E.Estimator.value E.Estimator.agrees est.old est.new }
     ensures keeps { Q.Queue.sound queue.old → Q.Queue.sound queue.new }
 {
     let state = rows[i].state;
@@ -116,7 +116,7 @@ pub(crate) fn open<E: Estimator, Q: Queue<Key = Pair>>(
     requires turn { Turning (problem task.now) (first rows.old) (board rows.old (Q.Queue.pairs queue.old) used.old) i 0 }
     ensures turn { MatchBool result (Standing (problem task.now) (first rows.old) (board rows.new (Q.Queue.pairs queue.new) used.new)) ((a : ℕ) × Overfull (problem task.now) (first rows.old) (board rows.new (Q.Queue.pairs queue.new) used.new) i a) }
     ensures moves { Moves (problem task.now) (first rows.old) (E.Estimator.value est.old) (E.Estimator.agrees est.old) (board rows.old (Q.Queue.pairs queue.old) used.old) (board rows.new (Q.Queue.pairs queue.new) used.new) }
-    ensures leaves { Leaves E.Estimator.suits E.Estimator.value E.Estimator.agrees E.Estimator.leads est.old est.new }
+    ensures leaves { Leaves E.Estimator.suits E.Estimator.value E.Estimator.agrees est.old est.new }
     ensures keeps { Q.Queue.sound queue.old → Q.Queue.sound queue.new }
 {
     for action in 0..task.action_count() {

@@ -28,7 +28,7 @@ pub(crate) fn begin<E: Estimator, Q: Queue<Key = Pair>>(
     requires some { 0 < length rows.old }
     requires space { length rows.old ≤ length (Q.Queue.pairs queue.old) }
     ensures keeps { Q.Queue.sound queue.old → Q.Queue.sound queue.new }
-    ensures leaves { Leaves E.Estimator.suits E.Estimator.value E.Estimator.agrees E.Estimator.leads est.old est.new }
+    ensures leaves { Leaves E.Estimator.suits E.Estimator.value E.Estimator.agrees est.old est.new }
     ensures after { Started (E.Estimator.value est.old) (E.Estimator.agrees est.old) start.now rows.old rows.new (Q.Queue.pairs queue.old) (Q.Queue.pairs queue.new) }
 {
     let estimate = est.estimate(start);
@@ -49,7 +49,7 @@ pub(crate) fn run<E: Estimator, Q: Queue<Key = Pair>>(
     requires thrifty { Thrifty (problem task.now) (first rows.old) (view rows.old 1) }
     requires room { length rows.old ≤ length steps.old }
     ensures ran { Ran (problem task.now) (first rows.old) (E.Estimator.value est.old) (E.Estimator.agrees est.old × Told (E.Estimator.value est.old) (view rows.old 1)) (Q.Queue.sound queue.old) (memory rows.old steps.old (Q.Queue.pairs queue.old)) (memory rows.new steps.new (Q.Queue.pairs queue.new)) result }
-    ensures leaves { Leaves E.Estimator.suits E.Estimator.value E.Estimator.agrees E.Estimator.leads est.old est.new }
+    ensures leaves { Leaves E.Estimator.suits E.Estimator.value E.Estimator.agrees est.old est.new }
     ensures keeps { Q.Queue.sound queue.old → Q.Queue.sound queue.new }
 {
     let mut used = 1;

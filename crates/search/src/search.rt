@@ -56,7 +56,7 @@ pub fn search<E: Estimator, Q: Queue<Key = Pair>>(
 ) -> Result<Outcome, SearchRefusal>
     ensures law { Searched (problem task.now) (standing start.now) (E.Estimator.value est.old) (E.Estimator.suits est.old (problem task.now)) (E.Estimator.agrees est.old) (Q.Queue.sound queue.old) (memory rows.old steps.old (Q.Queue.pairs queue.old)) (memory rows.new steps.new (Q.Queue.pairs queue.new)) result }
     ensures untouched { OnErr result ((est.new ≡ est.old) × (queue.new ≡ queue.old)) }
-    ensures leaves { Leaves E.Estimator.suits E.Estimator.value E.Estimator.agrees E.Estimator.leads est.old est.new }
+    ensures leaves { Leaves E.Estimator.suits E.Estimator.value E.Estimator.agrees est.old est.new }
     ensures keeps { Q.Queue.sound queue.old → Q.Queue.sound queue.new }
 {
     if let Some(refusal) = refusal(task, start, est, queue, rows, steps) {

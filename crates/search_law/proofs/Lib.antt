@@ -5,4 +5,3 @@ pub mod Successors
 pub mod Takes
 pub mod Traces
 pub mod Endings
-pub mod Numbers

@@ -34,7 +34,7 @@ module _ (p : Problem) (s : State) (v : State → ℕ) (A : Type 0) (rows : List
   same_turn j next is lt same le = record { turn = no_better p s (view rows used) (queued t) i a j m.turn (record { within = lt; is = same ∙ is; soon = le }); sized = m.sized }
 
   pub overfull : (next : State) → next ≡ step p a ((view rows used).row i).state → used ≡ length rows → ((k : ℕ) → k < used → ((view rows used).row k).state ≡ next → ⊥) → Overfull p s (board rows t used) i a
-  overfull next is full fresh = record { base = m.turn.base; tree = m.sized.tree; full = full; over = record { within = m.turn.within; opened = m.turn.opened; may = may; new = λ k kl e. fresh k kl (e ∙ sym is) } }
+  overfull next is full fresh = record { base = m.turn.base; full = full; over = record { within = m.turn.within; opened = m.turn.opened; may = may; new = λ k kl e. fresh k kl (e ∙ sym is) } }
 
   module _ (j : ℕ) (lt : j < used) (same : ((view rows used).row j).state ≡ step p a ((view rows used).row i).state) (less : ((view rows used).row i).steps + 1 < ((view rows used).row j).steps) where
     abbrev w : Row

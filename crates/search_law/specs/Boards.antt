@@ -72,7 +72,6 @@ pub record Overfull (p : Problem) (s : State) (b : Board) (i a : ℕ) : Type 0 w
   pub base : Recorded p s (seen b)
   pub full : b.used ≡ length b.rows
   pub over : Overflow p (seen b) i a
-  pub tree : Tree b.rows b.used
 
 -- what any number of steps leaves, whoever estimates; what is told stays so if the estimator agrees
 pub record Moves (p : Problem) (s : State) (v : State → ℕ) (Agrees : Type 0) (b c : Board) : Type 0 where
@@ -133,7 +132,6 @@ way_back rows (suc n) i rest = way_back rows n (get_or rows i blank).from ((get_
 pub record Ran (p : Problem) (s : State) (v : State → ℕ) (Agrees Sound : Type 0) (before after : Memory) (o : Outcome) : Type 0 where
   pub says : Says p s Agrees Sound before after o
   pub recorded : Recorded p s (view after.rows (used_of o))
-  pub tree : Tree after.rows (used_of o)
   pub told : Agrees → Told v (view after.rows (used_of o))
   pub thrifty : Agrees → Sound → Thrifty p s (view after.rows (used_of o))
   pub long : length after.rows ≡ length before.rows

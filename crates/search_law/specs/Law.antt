@@ -17,7 +17,6 @@ use Rattle.queue.specs.declared.key.Pair.{Pair}
 use Rattle.queue.specs.Keys.{pair_leq}
 use Rattle.rows.specs.declared.row.Row.{Row}
 use Rattle.rows.specs.Rows.{blank}
-use Rattle.rows.specs.Lookups.{Tree}
 use Rattle.search_theory.specs.Estimates.{HasNoPlan, NoneShorter, Enough}
 use Rattle.search_theory.specs.Rows.{Rows, Recorded, AllMet, Overflow, Told, Thrifty}
 use Rattle.search_law.specs.declared.outcome.Outcome.{Outcome}
@@ -83,10 +82,9 @@ Says p s Agrees Sound before after (Planned n used) = PlanFound p s Agrees Sound
 Says p s Agrees Sound before after (NoPlan used) = NoneFound p s Agrees before after used
 Says p s Agrees Sound before after (RowsFull used) = RowsAreFull p before after used
 
--- the rows in use hold different states that can be reached, each found by a look-up of its state; rows not in use are as they were; the queue is empty
+-- the rows in use hold different states that can be reached; rows not in use are as they were; the queue is empty
 pub record LeavesRows (p : Problem) (s : State) (v : State → ℕ) (Agrees Sound : Type 0) (before after : Memory) (used : ℕ) : Type 0 where
   pub recorded : Recorded p s (view after.rows used)
-  pub tree : Tree after.rows used
   pub reached : (i : ℕ) → i < used → Reachable p s ((view after.rows used).row i).state
   pub told : Agrees → Told v (view after.rows used)
   pub thrifty : Agrees → Sound → Thrifty p s (view after.rows used)

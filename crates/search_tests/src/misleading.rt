@@ -1,5 +1,4 @@
 // An estimator that misleads, to see a search end and open rows again.
-ghost use Rattle.std.specs.Prelude.{◌≡◌};
 ghost use Rattle.std.proofs.Common.{rules};
 
 use estimator::estimator::Estimator;
@@ -17,12 +16,6 @@ impl Estimator for Misleading {
     ghost value = { λ _ _. 0 };
 
     ghost agrees = { λ _. ⊥ };
-
-    ghost leads = { λ e f. f ≡ e };
-
-    ghost stays = { Prim.search rules };
-
-    ghost onward = { Prim.search rules };
 
     ghost admissible = { Prim.search rules };
 
@@ -51,12 +44,6 @@ impl Estimator for Unfit {
     ghost value = { λ _ _. 0 };
 
     ghost agrees = { λ _. Unit {0} };
-
-    ghost leads = { λ e f. f ≡ e };
-
-    ghost stays = { Prim.search rules };
-
-    ghost onward = { Prim.search rules };
 
     ghost admissible = { Prim.search rules };
 

@@ -31,7 +31,7 @@ Why b QueueUnfit = b ≡ false
 Why b Memory = b ≡ true
 
 module _ {R Q : Type 0} (pairs : Q → List (Option Figure)) where
-  -- the session is on this task and rule, unsettled, with the start facts standing, every figure none, and a queue of as many places
+  -- the session is on this task and rule, unsettled, with the start facts standing and every figure none
   pub record Opened (task : Task) (rule : R) (queue : Q) (s : Session R Q) : Type 0 where
     pub was_ready : ready (problem task) (pairs queue) ≡ true
     pub on_task : s.base.task ≡ task
@@ -39,7 +39,6 @@ module _ {R Q : Type 0} (pairs : Q → List (Option Figure)) where
     pub facts : facts_of s ≡ these (problem task).start
     pub figures : figures_of s ≡ replicate (items (problem task)) None
     pub settled : s.settled ≡ false
-    pub capacity : length (pairs s.held.queue) ≡ length (pairs queue)
 
   -- all is given back as it was
   pub record Refusing (task : Task) (rule : R) (queue : Q) (e : Unopened R Q) : Type 0 where

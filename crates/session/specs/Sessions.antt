@@ -6,7 +6,7 @@
 --   Entering, Striking, Settles     what enter, strike and settle answer and leave
 --   Docketing       the figures and the rows of an accepted settle
 --   figure_answer, goal_answer      what figure and goal figure answer
---   SameCapacity   the session's queue has as many places as before
+--   ready, Opened, Refusing         when a session can be opened, and what an opening answers
 use Rattle.std.specs.Prelude.{◌≡◌, ℕ, ◌*◌, ◌<◌, ◌≤◌, Bool, true, false, cond, ◌&&◌, List, map, length, take, drop, replicate, Ok, Err, vec_items, Option, Result, nat_lt, slice_index_or}
 use Rattle.figure.specs.declared.figure.Figure.{Figure}
 use Rattle.figure.specs.declared.figure.Figure.TheVariants.{None}
@@ -37,11 +37,6 @@ module _ {R Q : Type 0} where
   -- the held figures, by item
   abbrev pub figures_of : Session R Q → List Figure
   figures_of s = vec_items s.held.figures
-
-module _ {R Q : Type 0} (pairs : Q → List (Option Figure)) where
-  -- the queue that the session owns has as many places as before
-  abbrev pub SameCapacity : Session R Q → Session R Q → Type 0
-  SameCapacity s t = length (pairs t.held.queue) ≡ length (pairs s.held.queue)
 
 module _ {R Q : Type 0} (result : R → Rule) (sound : Q → Type 0) (pairs : Q → List (Option Figure)) where
   -- what the equations make of a table, for a session's task, rule and standing facts

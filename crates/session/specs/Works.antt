@@ -3,7 +3,7 @@
 --   call_of, reply_of   calls and answers of the code as those of the subject
 --   On                  the session is on this task and rule
 --   Working             each answer is right for the calls before it, whatever led to the session
-use Rattle.std.specs.Prelude.{◌≡◌, true, List, map, length, vec_items, Option}
+use Rattle.std.specs.Prelude.{◌≡◌, true, List, map, vec_items, Option}
 use Rattle.figure.specs.declared.figure.Figure.{Figure}
 use Rattle.model.specs.Figures.{Rule}
 use Rattle.model.specs.Runs.{Call, Reply, Past, ended, Rights}
@@ -37,12 +37,11 @@ reply_of (answer.Wrote rows) = wrote (map row_of (vec_items rows))
 reply_of (answer.Is f) = is f
 reply_of (answer.Refused e) = refused (number_of e)
 
--- the queue was ready, and the session is on this task and rule, with a queue of as many places
+-- the queue was ready, and the session is on this task and rule
 pub record On {R Q : Type 0} (pairs : Q → List (Option Figure)) (task : Task) (rule : R) (queue : Q) (s : Session R Q) : Type 0 where
   pub was_ready : ready (problem task) (pairs queue) ≡ true
   pub on_task : s.base.task ≡ task
   pub by_rule : s.base.rule ≡ rule
-  pub capacity : length (pairs s.held.queue) ≡ length (pairs queue)
 
 module _ {R Q : Type 0} (result : R → Rule) (queue-sound : Q → Type 0) (pairs : Q → List (Option Figure)) where
   -- whatever past led to s, each answer is right for the calls before it, and t is a session that this past and the calls lead to

@@ -4,7 +4,7 @@ ghost use Rattle.model.specs.Strips.{items};
 ghost use Rattle.model.specs.Runs.Call.{enter as to-enter, strike as to-strike, settle as to-settle, figure as to-tell, goal as to-tell-goal};
 ghost use Rattle.strips.specs.Standing.{standing};
 ghost use Rattle.strips.specs.Tasks.{problem};
-ghost use Rattle.session.specs.Sessions.{SameCapacity, Sound, Moved, Entering, Striking, Settles, Docketing, figure_answer, goal_answer};
+ghost use Rattle.session.specs.Sessions.{Sound, Moved, Entering, Striking, Settles, Docketing, figure_answer, goal_answer};
 ghost use Rattle.session.specs.Laws.{told_of, shown_of, wrote_of, Goes};
 
 use crate::fault::SessionFault;
@@ -27,7 +27,6 @@ impl<R: CostRule, Q: Queue<Key = Figure>> Session<R, Q> {
     // Puts another state in place, which differs at one fact alone, and makes that fact right again.
     fn restand(&mut self, state: State, fact: u8)
         ensures moves { Moved self.old self.new state }
-        ensures capacity { SameCapacity Q.Queue.pairs self.old self.new }
         ensures keeps { ((f : ℕ) → (f ≢ fact) → standing state f ≡ standing self.old.state f) → Sound R.CostRule.result Q.Queue.sound Q.Queue.pairs self.old → Sound R.CostRule.result Q.Queue.sound Q.Queue.pairs self.new }
     {
         self.state = state;
@@ -39,7 +38,6 @@ impl<R: CostRule, Q: Queue<Key = Figure>> Session<R, Q> {
     // Makes a fact stand; tells whether it had not stood. Only then is the session unsettled.
     pub fn enter(&mut self, fact: u8) -> Result<bool, SessionFault>
         ensures answer { Entering self.old self.new fact result }
-        ensures capacity { SameCapacity Q.Queue.pairs self.old self.new }
         ensures keeps { Sound R.CostRule.result Q.Queue.sound Q.Queue.pairs self.old → Sound R.CostRule.result Q.Queue.sound Q.Queue.pairs self.new }
         ensures law { Goes R.CostRule.result Q.Queue.sound Q.Queue.pairs self.old (to-enter fact) (told_of result) self.new }
     {
@@ -57,7 +55,6 @@ impl<R: CostRule, Q: Queue<Key = Figure>> Session<R, Q> {
     // Makes a fact fall; tells whether it had stood. Only then is the session unsettled.
     pub fn strike(&mut self, fact: u8) -> Result<bool, SessionFault>
         ensures answer { Striking self.old self.new fact result }
-        ensures capacity { SameCapacity Q.Queue.pairs self.old self.new }
         ensures keeps { Sound R.CostRule.result Q.Queue.sound Q.Queue.pairs self.old → Sound R.CostRule.result Q.Queue.sound Q.Queue.pairs self.new }
         ensures law { Goes R.CostRule.result Q.Queue.sound Q.Queue.pairs self.old (to-strike fact) (told_of result) self.new }
     {
@@ -75,7 +72,6 @@ impl<R: CostRule, Q: Queue<Key = Figure>> Session<R, Q> {
     // Moves the held figures to those of the facts that stand, writes a row for each change, and answers how many.
     pub fn settle(&mut self, docket: &mut [DocketRow]) -> Result<usize, SessionFault>
         ensures answer { Settles self.old self.new docket.old docket.new result }
-        ensures capacity { SameCapacity Q.Queue.pairs self.old self.new }
         ensures keeps { Sound R.CostRule.result Q.Queue.sound Q.Queue.pairs self.old → Sound R.CostRule.result Q.Queue.sound Q.Queue.pairs self.new }
         ensures figures { Sound R.CostRule.result Q.Queue.sound Q.Queue.pairs self.old → Docketing R.CostRule.result self.old self.new docket.new result }
         ensures law { Goes R.CostRule.result Q.Queue.sound Q.Queue.pairs self.old (to-settle (length docket.old)) (wrote_of docket.new result) self.new }

@@ -4,7 +4,7 @@ ghost use Rattle.model.specs.Strips.{items};
 ghost use Rattle.model.specs.Runs.{fresh, ended, Rights};
 ghost use Rattle.model.specs.Runs.Call.{settle as to-settle};
 ghost use Rattle.strips.specs.Tasks.{problem};
-ghost use Rattle.session.specs.Sessions.{task_of, SameCapacity, Sound};
+ghost use Rattle.session.specs.Sessions.{task_of, Sound};
 ghost use Rattle.session.specs.Laws.{told_of, shown_of, Led, Goes};
 ghost use Rattle.session.specs.Openings.{Refusing};
 ghost use Rattle.session.specs.Rooms.{weight, Stocked, Roomy};
@@ -46,7 +46,6 @@ impl<R: CostRule, Q: Queue<Key = Figure>> Session<R, Q> {
     // Settles as if on so many rows; of the docket no more than two rows for each item are ever written.
     fn settle_on(&mut self, docket: Vec<DocketRow>, rows: usize) -> Answer
         ensures base { self.new.base ≡ self.old.base }
-        ensures capacity { SameCapacity Q.Queue.pairs self.old self.new }
         ensures keeps { Sound R.CostRule.result Q.Queue.sound Q.Queue.pairs self.old → Sound R.CostRule.result Q.Queue.sound Q.Queue.pairs self.new }
         ensures law { vec_len docket ≡ 2 * items (task_of self.old) → Goes R.CostRule.result Q.Queue.sound Q.Queue.pairs self.old (to-settle rows) (reply_of result) self.new }
     {
@@ -64,7 +63,6 @@ impl<R: CostRule, Q: Queue<Key = Figure>> Session<R, Q> {
     // Works one call; a settle takes one of the dockets.
     fn ask(&mut self, call: Call, dockets: &mut Vec<Vec<DocketRow>>) -> Answer
         ensures base { self.new.base ≡ self.old.base }
-        ensures capacity { SameCapacity Q.Queue.pairs self.old self.new }
         ensures keeps { Sound R.CostRule.result Q.Queue.sound Q.Queue.pairs self.old → Sound R.CostRule.result Q.Queue.sound Q.Queue.pairs self.new }
         ensures law { (n : ℕ) → Stocked (weight call + n) (2 * items (task_of self.old)) dockets.old.items → Goes R.CostRule.result Q.Queue.sound Q.Queue.pairs self.old (call_of call) (reply_of result) self.new × Stocked n (2 * items (task_of self.old)) dockets.new.items }
     {
@@ -84,7 +82,6 @@ impl<R: CostRule, Q: Queue<Key = Figure>> Session<R, Q> {
     fn run(&mut self, room: Room, calls: &[Call]) -> Vec<Answer>
         requires { Roomy (2 * items (task_of self.old)) calls.now room }
         ensures base { self.new.base ≡ self.old.base }
-        ensures capacity { SameCapacity Q.Queue.pairs self.old self.new }
         ensures keeps { Sound R.CostRule.result Q.Queue.sound Q.Queue.pairs self.old → Sound R.CostRule.result Q.Queue.sound Q.Queue.pairs self.new }
         ensures law { Working R.CostRule.result Q.Queue.sound Q.Queue.pairs self.old calls.now result.items self.new }
     {
@@ -102,7 +99,6 @@ impl<R: CostRule, Q: Queue<Key = Figure>> Session<R, Q> {
     // Works a list of calls: every answer is right for the calls before it. Where memory is wanting no call is worked.
     pub fn work(&mut self, heap: Global, calls: &[Call]) -> Result<Vec<Answer>, AllocError>
         ensures refused { MatchResult result (λ _. self.new.base ≡ self.old.base) (λ _. self.new ≡ self.old) }
-        ensures capacity { SameCapacity Q.Queue.pairs self.old self.new }
         ensures keeps { Sound R.CostRule.result Q.Queue.sound Q.Queue.pairs self.old → Sound R.CostRule.result Q.Queue.sound Q.Queue.pairs self.new }
         ensures law { IfOk result (λ v. Working R.CostRule.result Q.Queue.sound Q.Queue.pairs self.old calls.now v.items self.new) }
     {

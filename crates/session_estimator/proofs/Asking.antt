@@ -11,12 +11,12 @@ use Rattle.settling.specs.declared.row.DocketRow.{DocketRow}
 use Rattle.session.specs.declared.fault.SessionFault.{SessionFault}
 use Rattle.session.specs.declared.fault.SessionFault.TheVariants.{Unsettled}
 use Rattle.session.specs.declared.session.Session.{Session}
-use Rattle.session.specs.Sessions.{task_of, facts_of, figures_of, SameCapacity, Sound, Settles, Docketing, goal_answer}
+use Rattle.session.specs.Sessions.{task_of, facts_of, figures_of, Sound, Settles, Docketing, goal_answer}
 use Rattle.session.specs.Laws.{Led, Goes}
 use Rattle.session_estimator.specs.Followed.{moves, asked}
 use Rattle.session_estimator.specs.Estimating.{Leads, Followed, distance}
 use Rattle.session_estimator.specs.Tabled.{tells_distance}
-use Rattle.session_estimator.specs.Follows.{leads_more}
+use Rattle.session_estimator.proofs.Follows.{leads_more}
 
 module _ {R Q : Type 0} (qs : Q → Type 0) (pairs : Q → List (Option Figure)) where
   abbrev largest : R → Rule
@@ -28,14 +28,14 @@ module _ {R Q : Type 0} (qs : Q → Type 0) (pairs : Q → List (Option Figure))
 
   -- the calls of an estimate lead on
   pub leads_asked : (s t v : Session R Q) (u : State) (first last : List DocketRow) (r : Result ℕ SessionFault) (a b : Reply) →
-      Followed largest qs pairs s t (task_of s).facts u → Settles t v first last r → (Sound largest qs pairs t → Sound largest qs pairs v) → SameCapacity pairs t v →
+      Followed largest qs pairs s t (task_of s).facts u → Settles t v first last r → (Sound largest qs pairs t → Sound largest qs pairs v) →
       Goes largest qs pairs t (settle (length first)) a v → Goes largest qs pairs v goal b v →
       Leads largest qs pairs s v (asked (task_of s) (facts_of s) u (length first))
-  leads_asked s t v u first last r a b f st keeps long gs gg =
+  leads_asked s t v u first last r a b f st keeps gs gg =
       leads_more largest qs pairs s t v (moves (task_of s).facts (facts_of s) u) (settle (length first) ∷ goal ∷ []) f.leads
       (leads_more largest qs pairs t v v (settle (length first) ∷ []) (goal ∷ [])
-      (record { base = settle_base t v first last r st; capacity = long; sound = keeps; led = λ past h. (gs past h).1 })
-      (record { base = refl; capacity = refl; sound = λ h. h; led = λ past h. (gg past h).1 }))
+      (record { base = settle_base t v first last r st; sound = keeps; led = λ past h. (gs past h).1 })
+      (record { base = refl; sound = λ h. h; led = λ past h. (gg past h).1 }))
 
   -- a sound session with docket enough answers the distance
   pub answered : (s t v : Session R Q) (u : State) (first last : List DocketRow) (r : Result ℕ SessionFault) (a : Result Figure SessionFault) →

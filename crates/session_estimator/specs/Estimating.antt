@@ -2,7 +2,6 @@
 --
 --   the_table     the only table of a problem and a state under the max rule
 --   distance      the goal figure in it
---   Leads, Onward       these calls, or some, lead from one session to another
 --   Aligned, Followed   what moving one fact, or all, leaves of a session
 use Rattle.std.specs.Prelude.{◌≡◌, ℕ, ◌<◌, ◌≤◌, Bool, List, Option, ◌≢◌}
 use Rattle.figure.specs.declared.figure.Figure.{Figure}
@@ -11,7 +10,7 @@ use Rattle.model.specs.Figures.{Rule, Table, max_rule, goal_figure}
 use Rattle.model.specs.Runs.{Past, Call, ended}
 use Rattle.model.proofs.Equations.{one_table, max_laws}
 use Rattle.session.specs.declared.session.Session.{Session}
-use Rattle.session.specs.Sessions.{task_of, facts_of, SameCapacity, Sound}
+use Rattle.session.specs.Sessions.{task_of, facts_of, Sound}
 use Rattle.session.specs.Laws.{Led}
 use Rattle.session_estimator.specs.Followed.{move, moves}
 
@@ -27,13 +26,8 @@ module _ {R Q : Type 0} (result : R → Rule) (queue-sound : Q → Type 0) (pair
   -- calls lead from one session to another: what was sound is, and whatever led to the first leads with the calls to the second
   pub record Leads (s t : Session R Q) (calls : List Call) : Type 0 where
     pub base : t.base ≡ s.base
-    pub capacity : SameCapacity pairs s t
     pub sound : Sound result queue-sound pairs s → Sound result queue-sound pairs t
     pub led : (past : Past) → Led result queue-sound pairs past s → Led result queue-sound pairs (ended (task_of s) past calls) t
-
-  -- some calls lead from the one session to the other
-  abbrev pub Onward : Session R Q → Session R Q → Type 0
-  Onward s t = (calls : List Call) × Leads s t calls
 
   -- fact f stands as b says, and no other has moved
   pub record Aligned (s t : Session R Q) (f : ℕ) (b : Bool) : Type 0 where

@@ -1,4 +1,3 @@
 pub mod Followed
 pub mod Estimating
 pub mod Tabled
-pub mod Follows

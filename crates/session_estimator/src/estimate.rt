@@ -1,5 +1,5 @@
 // A session's goal figure as an estimate.
-ghost use Rattle.std.specs.Prelude.{◌≡◌, ◌*◌, ◌≤◌, [], ◌++◌, length, vec_len, refl};
+ghost use Rattle.std.specs.Prelude.{◌≡◌, ◌*◌, ◌≤◌, length, vec_len};
 ghost use Rattle.std.proofs.Common.{subst};
 ghost use Rattle.model.specs.Strips.{items, Plan};
 ghost use Rattle.figure.specs.Ranks.{rank};
@@ -8,11 +8,10 @@ ghost use Rattle.strips.specs.Standing.{standing};
 ghost use Rattle.session.specs.Sessions.{task_of, facts_of, Sound};
 ghost use Rattle.estimator.specs.Meanings.{Leaves};
 ghost use Rattle.session_estimator.specs.Followed.{asked};
-ghost use Rattle.session_estimator.specs.Estimating.{distance, Leads, Onward, the_table};
+ghost use Rattle.session_estimator.specs.Estimating.{distance, Leads, the_table};
 ghost use Rattle.model.proofs.Plans;
 ghost use Rattle.strips.proofs.Keeping.{lawful};
 ghost use Rattle.session_estimator.specs.Tabled.{the_table_solves};
-ghost use Rattle.session_estimator.specs.Follows.{leads_more};
 
 use crate::following::follow;
 use crate::session_estimator::SessionEstimator;
@@ -52,13 +51,6 @@ impl<Q: Queue<Key = Figure>> Estimator for SessionEstimator<Q> {
     // The session was opened and handled by its own calls.
     ghost agrees = { λ e. Sound (λ _. max_rule) Q.Queue.sound Q.Queue.pairs e.session };
 
-    // Some calls lead from the session to the other.
-    ghost leads = { λ e f. Onward (λ _. max_rule) Q.Queue.sound Q.Queue.pairs e.session f.session };
-
-    ghost stays = { λ e. ([], record { base = refl; capacity = refl; sound = λ h. h; led = λ past h. h }) };
-
-    ghost onward = { λ d e f (cs, a) (ds, b). (cs ++ ds, leads_more (λ _. max_rule) Q.Queue.sound Q.Queue.pairs d.session e.session f.session cs ds a b) };
-
     ghost admissible = { λ e p fit s acts plan.
         let q = task_of e.session in
         Plans.admissible q (lawful e.session.base.task) s (the_table q s) (the_table_solves q s) acts (subst (λ r. Plan r s acts) fit plan) };
@@ -69,7 +61,7 @@ impl<Q: Queue<Key = Figure>> Estimator for SessionEstimator<Q> {
 
     fn estimate(&mut self, state: &State) -> Figure
         ensures figure { Sound (λ _. max_rule) Q.Queue.sound Q.Queue.pairs self.old.session → rank result ≡ distance (task_of self.old.session) (standing state.now) }
-        ensures leaves { Leaves (λ e p. p ≡ task_of e.session) (λ e s. distance (task_of e.session) s) (λ e. Sound (λ _. max_rule) Q.Queue.sound Q.Queue.pairs e.session) (λ e f. Onward (λ _. max_rule) Q.Queue.sound Q.Queue.pairs e.session f.session) self.old self.new }
+        ensures leaves { Leaves (λ e p. p ≡ task_of e.session) (λ e s. distance (task_of e.session) s) (λ e. Sound (λ _. max_rule) Q.Queue.sound Q.Queue.pairs e.session) self.old self.new }
         ensures runs { Leads (λ _. max_rule) Q.Queue.sound Q.Queue.pairs self.old.session self.new.session (asked (task_of self.old.session) (facts_of self.old.session) (standing state.now) (vec_len self.old.docket)) }
     {
         goal_figure_at(&mut self.session, &mut self.docket, state)

@@ -1,5 +1,5 @@
 -- The rows of a settling, as the loop writes them. Assumes nothing.
-use Rattle.std.proofs.Common.{◌≡◌, ℕ, ◌+◌, ◌*◌, ◌<◌, ◌≤◌, Bool, true, false, not, ◌&&◌, ◌||◌, eqb, ◌⊎◌, List, [], ◌∷◌, ◌++◌, map, length, get_or, take, drop, set, vec_len, sym, refl, ap, ◌∙◌, subst, inl, inr, ⊎_elim, arith}
+use Rattle.std.proofs.Common.{◌≡◌, ℕ, ◌+◌, ◌*◌, ◌<◌, ◌≤◌, Bool, true, false, not, ◌&&◌, ◌||◌, eqb, ◌⊎◌, List, [], ◌∷◌, ◌++◌, map, length, get_or, take, drop, set, sym, refl, ap, ◌∙◌, subst, inl, inr, ⊎_elim, arith}
 use lib.ListN.{length-map}
 use Rattle.std.proofs.lemmas.List.{take_more_set, drop-set-lt, length-take-le, drop-drop, map_push}
 use Rattle.std.proofs.lemmas.Bool.{cases_Bool, false≢true}
@@ -15,8 +15,6 @@ use Rattle.model.proofs.Ranked.{table_other}
 use Rattle.model.proofs.Runs.{settles, tracked}
 use Rattle.model.proofs.Tracks.{spent_solves}
 use Rattle.settling.specs.declared.row.DocketRow.{DocketRow}
-use native.Mathlib.Nat.{ℕ_set}
-use Rattle.settling.specs.declared.held.HeldFigures.{HeldFigures}
 use Rattle.settling.specs.Holding.{row_of}
 
 -- one more row
@@ -56,7 +54,3 @@ struck_first x l r e = go (eqb x r) (names l r) e where
   go : (a b : Bool) → (not a && (a || b)) ≡ true → b ≡ true
   go true b e = absurd (false≢true e)
   go false b e = e
-
--- held figures built again of their parts are the same
-pub again : {Q : Type 0} (h : HeldFigures Q) (a : vec_len h.sides ≡ vec_len h.figures) → record { figures = h.figures; sides = h.sides; queue = h.queue; level = a } ≡ h
-again h a = ap (λ l. record { figures = h.figures; sides = h.sides; queue = h.queue; level = l }) (ℕ_set _ _ a h.level)

@@ -7,7 +7,7 @@
 --   Turned         what one turn of a settling answers and leaves
 --   Settled        what a settling answers and leaves
 --   row_of         a row of the code as a row of the subject
-use Rattle.std.specs.Prelude.{◌≡◌, ℕ, ◌*◌, ◌≤◌, false, ◌⊎◌, List, map, length, take, replicate, vec_items, vec_len, Option, slice_index_or, slice_set}
+use Rattle.std.specs.Prelude.{◌≡◌, ℕ, ◌*◌, ◌≤◌, false, List, map, length, take, replicate, vec_items, vec_len, Option, slice_index_or, slice_set}
 use Rattle.std.specs.declared.option.Option.TheVariants as option
 use Rattle.figure.specs.declared.figure.Figure.{Figure}
 use Rattle.figure.specs.declared.figure.Figure.TheVariants.{None}
@@ -72,12 +72,11 @@ module _ {R Q : Type 0} (result : R → Rule) (pairs : Q → List (Option Figure
   Turned h k option.None = Fitting base h → Keeping h → Resting h k
   Turned h k (option.Some w) = Fitting base h → Keeping h → Moving h k w
 
-  -- what a settling answers and leaves: the docket in the first n rows; it ends where the figures are the table's or the docket is full, and with rows enough they are the table's
+  -- what a settling with rows enough answers and leaves: the table, and the docket in the first n rows
   pub record SettlingDone (h k : HeldFigures Q) (first last : List DocketRow) (n : ℕ) : Type 0 where
-    pub ends : Solves (equations_of result base state) (table (vec_items k.figures)) ⊎ (n ≡ length first)
-    pub solves : 2 * items (problem base.task) ≤ length first → Solves (equations_of result base state) (table (vec_items k.figures))
+    pub solves : Solves (equations_of result base state) (table (vec_items k.figures))
     pub docket : Docket (vec_items h.figures) (vec_items k.figures) (map row_of (take n last))
     pub keeping : Keeping k
 
   abbrev pub Settled : HeldFigures Q → HeldFigures Q → List DocketRow → List DocketRow → ℕ → Type 0
-  Settled h k first last n = Fitting base h → Keeping h → SettlingDone h k first last n
+  Settled h k first last n = Fitting base h → Keeping h → 2 * items (problem base.task) ≤ length first → SettlingDone h k first last n

@@ -37,7 +37,6 @@ impl<Q: Queue<Key = Figure>> HeldFigures<Q> {
     // Makes every right-hand side right.
     fn refresh_every<R: CostRule>(&mut self, base: &Base<R>, state: &State)
         ensures keeps { Q.Queue.sound self.old.queue → Q.Queue.sound self.new.queue }
-        ensures capacity { length (Q.Queue.pairs self.new.queue) ≡ length (Q.Queue.pairs self.old.queue) }
         ensures held { self.new.figures ≡ self.old.figures }
         ensures after { Refreshes R.CostRule.result Q.Queue.pairs base.now state.now self.old self.new (λ _. true) }
     {
@@ -54,7 +53,6 @@ impl<Q: Queue<Key = Figure>> HeldFigures<Q> {
         queue: Q,
     ) -> Result<HeldFigures<Q>, Q>
         ensures held { MatchResult result (λ h. h.figures.items ≡ replicate (items (problem base.now.task)) None) (λ q. q ≡ queue) }
-        ensures capacity { IfOk result (λ h. length (Q.Queue.pairs h.queue) ≡ length (Q.Queue.pairs queue)) }
         ensures keeps { Q.Queue.sound queue → IfOk result (λ h. Q.Queue.sound h.queue) }
         ensures after { Linked (problem base.now.task) base.now.links → vacant (Q.Queue.pairs queue) ≡ true → items (problem base.now.task) ≤ length (Q.Queue.pairs queue) → IfOk result (Keeping R.CostRule.result Q.Queue.pairs base.now state.now) }
     {

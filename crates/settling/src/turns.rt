@@ -17,7 +17,6 @@ use strips::state::State;
 // Queues an item under the smaller of its two figures if they differ, and else takes it out.
 fn adjust<Q: Queue<Key = Figure>>(queue: &mut Q, item: usize, held: Figure, side: Figure)
     ensures keeps { Q.Queue.sound queue.old → Q.Queue.sound queue.new }
-    ensures capacity { length (Q.Queue.pairs queue.new) ≡ length (Q.Queue.pairs queue.old) }
     ensures after { item < length (Q.Queue.pairs queue.old) → Q.Queue.pairs queue.new ≡ slice_set (Q.Queue.pairs queue.old) item (due held side) }
 {
     if held == side {
@@ -31,9 +30,7 @@ impl<Q: Queue<Key = Figure>> HeldFigures<Q> {
     // Makes the right-hand side of an item right, and its place in the queue. What is no item is left alone.
     pub fn refresh<R: CostRule>(&mut self, base: &Base<R>, state: &State, item: usize)
         ensures keeps { Q.Queue.sound self.old.queue → Q.Queue.sound self.new.queue }
-        ensures capacity { length (Q.Queue.pairs self.new.queue) ≡ length (Q.Queue.pairs self.old.queue) }
         ensures held { self.new.figures ≡ self.old.figures }
-        ensures beyond { vec_len self.old.figures ≤ item → self.new ≡ self.old }
         ensures after { Refreshed R.CostRule.result Q.Queue.pairs base.now state.now self.old self.new item }
     {
         if item < self.figures.len() {
@@ -46,7 +43,6 @@ impl<Q: Queue<Key = Figure>> HeldFigures<Q> {
     // Makes the right-hand sides of the listed items right.
     fn refresh_all<R: CostRule>(&mut self, base: &Base<R>, state: &State, items: &[usize])
         ensures keeps { Q.Queue.sound self.old.queue → Q.Queue.sound self.new.queue }
-        ensures capacity { length (Q.Queue.pairs self.new.queue) ≡ length (Q.Queue.pairs self.old.queue) }
         ensures held { self.new.figures ≡ self.old.figures }
         ensures after { Refreshes R.CostRule.result Q.Queue.pairs base.now state.now self.old self.new (names items.now) }
     {
@@ -58,7 +54,6 @@ impl<Q: Queue<Key = Figure>> HeldFigures<Q> {
     // Takes an item of the least key, gives it its next figure, and makes what reads it right again.
     fn turn<R: CostRule>(&mut self, base: &Base<R>, state: &State) -> Option<DocketRow>
         ensures keeps { Q.Queue.sound self.old.queue → Q.Queue.sound self.new.queue }
-        ensures capacity { length (Q.Queue.pairs self.new.queue) ≡ length (Q.Queue.pairs self.old.queue) }
         ensures long { vec_len self.new.figures ≡ vec_len self.old.figures }
         ensures after { Q.Queue.sound self.old.queue → Turned R.CostRule.result Q.Queue.pairs base.now state.now self.old self.new result }
     {
@@ -92,7 +87,6 @@ impl<Q: Queue<Key = Figure>> HeldFigures<Q> {
         docket: &mut [DocketRow],
     ) -> usize
         ensures keeps { Q.Queue.sound self.old.queue → Q.Queue.sound self.new.queue }
-        ensures capacity { length (Q.Queue.pairs self.new.queue) ≡ length (Q.Queue.pairs self.old.queue) }
         ensures long { vec_len self.new.figures ≡ vec_len self.old.figures }
         ensures within { result ≤ length docket.old }
         ensures later { drop result docket.new ≡ drop result docket.old }

@@ -1,7 +1,6 @@
 use Rattle.model.proofs.Examples.{worked}
 use Rattle.model.proofs.WorkedFigures.{worked_figures}
-use Rattle.model.proofs.WorkedRuns.{worked_runs}
 use Rattle.model.proofs.worked_examples.Goals as goal
 
 pub returns : goal.returns
-returns c = (worked, worked_figures, worked_runs)
+returns c = (worked, worked_figures)

@@ -12,12 +12,9 @@ returns-in-Ok g c = record {
     search = c.search-outcome.ensures.law;
   };
   led = c.in-Ok.ensures.led;
-  session = c.in-Ok.ensures.opens;
-  refusal = c.search-outcome.ensures.untouched;
-  keeps = c.search-outcome.ensures.keeps;
   estimator = c.search-outcome.ensures.leaves;
   untouched = tt;
 }
 
 pub returns-in-Err : goal.returns-in-Err
-returns-in-Err g c = record { law = c.in-Err.ensures.opens; led = λ _. tt; session = tt; refusal = tt; keeps = λ h. h; estimator = tt; untouched = (refl, refl, refl, refl) }
+returns-in-Err g c = record { law = c.in-Err.ensures.opens; led = λ _. tt; estimator = tt; untouched = (refl, refl, refl, refl) }

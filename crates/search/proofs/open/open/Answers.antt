@@ -4,12 +4,12 @@ use Rattle.estimator.specs.Meanings.{Leaves}
 use Rattle.search_law.specs.Boards.{board, first, Turning, Overfull, Moves}
 use Rattle.search_law.proofs.Writes.{moves_refl, moves_trans}
 use Rattle.search_law.proofs.Opens.{turn_ends}
-use Rattle.search.proofs.Leaving.{leaves_refl, leaves_trans}
+use Rattle.search.proofs.Leaving.{leaves_trans}
 use Rattle.search.proofs.open.open.Goals as goal
 
 pub loop-action-init : goal.loop-action-init
 loop-action-init g c =
-    (c.requires.turn, moves_refl _ _ _ _ _ _ _ c.requires.turn.sized.tree.fits, leaves_refl g.met.E.Estimator.stays, λ h. h)
+    (c.requires.turn, moves_refl _ _ _ _ _ _ _ c.requires.turn.sized.tree.fits, record { still_fits = λ _ h. h; fitted = λ _ h. h; same_value = λ _. refl; still_agrees = λ h. h }, λ h. h)
 
 pub successor-requires : goal.successor-requires
 successor-requires g c =
@@ -30,7 +30,7 @@ returns-then-not-successor g c =
     record {
       turn = (c.loop-action.action, subst (λ s. Overfull p s after c.args.i c.loop-action.action) start h.turn);
       moves = moves_trans p _ _ _ _ _ _ _ _ _ _ _ _ _ _ inv.2.same_value inv.2.still_agrees inv.1 (subst (λ s. Moves p s (g.E.Estimator.value c.loop-action.est) (g.E.Estimator.agrees c.loop-action.est) mid after) start h.moves);
-      leaves = leaves_trans g.met.E.Estimator.onward inv.2 h.leaves;
+      leaves = leaves_trans inv.2 h.leaves;
       keeps = λ k. h.keeps (inv.3 k);
     }
 
@@ -44,7 +44,7 @@ loop-action-preserved g c =
     let mid = board c.loop-action.rows (g.Q.Queue.pairs c.loop-action.queue) c.loop-action.used in (
       subst (λ s. Turning p s after c.args.i (c.loop-action.action + 1)) start h.turn,
       moves_trans p _ _ _ _ _ _ _ _ _ _ _ _ _ _ inv.2.same_value inv.2.still_agrees inv.1 (subst (λ s. Moves p s (g.E.Estimator.value c.loop-action.est) (g.E.Estimator.agrees c.loop-action.est) mid after) start h.moves),
-      leaves_trans g.met.E.Estimator.onward inv.2 h.leaves,
+      leaves_trans inv.2 h.leaves,
       λ k. h.keeps (inv.3 k),
     )
 

@@ -7,13 +7,12 @@ use Rattle.search_law.specs.Boards.{first}
 use Rattle.search_law.proofs.Writes.{moves_refl}
 use Rattle.search_law.proofs.Opens.{turn_not_taken, overfull}
 use Rattle.search_law.proofs.Successors.{any, shortened, added}
-use Rattle.search.proofs.Leaving.{leaves_refl}
 use Rattle.search.proofs.open.successor.Goals as goal
 
 pub shorten-requires : goal.shorten-requires
 shorten-requires g c =
     let m = c.requires.turn in
-    let look = c.find-seat.ensures.looked c.args.used.now m.sized.tree in
+    let look = c.find-seat.ensures c.args.used.now m.sized.tree in
     record {
       rows = (omega (arith, m.turn.within, m.sized.tree.fits), omega (arith, look.within, m.sized.tree.fits));
       space = m.sized.space;
@@ -42,7 +41,7 @@ returns-then-not-may g c =
     record {
       turn = turn_not_taken p s rows t used i c.args.action m (subst (λ w. May p c.args.action (standing w.state) → ⊥) e (not_from_Decides _ c.may.ensures c.if-not-may.true));
       moves = moves_refl p s _ _ rows t used m.sized.tree.fits;
-      leaves = leaves_refl g.met.E.Estimator.stays;
+      leaves = record { still_fits = λ _ h. h; fitted = λ _ h. h; same_value = λ _. refl; still_agrees = λ h. h };
       keeps = λ h. h;
     }
 
@@ -56,14 +55,14 @@ returns-then-seat g c =
     let a = c.args.action in
     let m = c.requires.turn in
     let e = any rows i c.index-rows-i.result (omega (arith, m.turn.within, m.sized.tree.fits)) in
-    let look = c.find-seat.ensures.looked used m.sized.tree in
+    let look = c.find-seat.ensures used m.sized.tree in
     let may = subst (λ w. May p a (standing w.state)) e (c.may.ensures.0 c.if-not-may.false) in
     let is = c.after-next.ensures ∙ ap (λ w. step p a (standing w.state)) e in
     let done = shortened p (first rows) (g.E.Estimator.value c.args.est.now) (g.E.Estimator.agrees c.args.est.now) rows t used i a m may c.after-next.result is c.find-seat.result.at look.within (look.found c.if-seat.true) c.shorten.new.rows (g.Q.Queue.pairs c.shorten.new.queue) c.shorten.ensures.after in
     record {
       turn = done.0;
       moves = done.1;
-      leaves = leaves_refl g.met.E.Estimator.stays;
+      leaves = record { still_fits = λ _ h. h; fitted = λ _ h. h; same_value = λ _. refl; still_agrees = λ h. h };
       keeps = c.shorten.ensures.keeps;
     }
 
@@ -78,13 +77,13 @@ returns-then-number-rows g c =
     let a = c.args.action in
     let m = c.requires.turn in
     let e = any rows i c.index-rows-i.result (omega (arith, m.turn.within, m.sized.tree.fits)) in
-    let look = c.find-seat.ensures.looked used m.sized.tree in
+    let look = c.find-seat.ensures used m.sized.tree in
     let may = subst (λ w. May p a (standing w.state)) e (c.may.ensures.0 c.if-not-may.false) in
     let is = c.after-next.ensures ∙ ap (λ w. step p a (standing w.state)) e in
     record {
       turn = overfull p s (g.E.Estimator.value c.args.est.now) (g.E.Estimator.agrees c.args.est.now) rows t used i a m may (standing c.after-next.result) is c.if-number-rows.true (look.none c.if-seat.false);
       moves = moves_refl p s _ _ rows t used m.sized.tree.fits;
-      leaves = leaves_refl g.met.E.Estimator.stays;
+      leaves = record { still_fits = λ _ h. h; fitted = λ _ h. h; same_value = λ _. refl; still_agrees = λ h. h };
       keeps = λ h. h;
     }
 
@@ -98,7 +97,7 @@ returns g c =
     let a = c.args.action in
     let m = c.requires.turn in
     let e = any rows i c.index-rows-i.result (omega (arith, m.turn.within, m.sized.tree.fits)) in
-    let look = c.find-seat.ensures.looked used m.sized.tree in
+    let look = c.find-seat.ensures used m.sized.tree in
     let may = subst (λ w. May p a (standing w.state)) e (c.may.ensures.0 c.if-not-may.false) in
     let is = c.after-next.ensures ∙ ap (λ w. step p a (standing w.state)) e in
     let done = added p (first rows) (g.E.Estimator.value c.args.est.now) (g.E.Estimator.agrees c.args.est.now) rows t used i a m may c.after-next.result is c.find-seat.result look c.if-seat.false (omega (arith, c.if-number-rows.false, m.sized.tree.fits)) c.add.new.rows (g.Q.Queue.pairs c.add.new.queue) c.add.ensures.after in

@@ -12,12 +12,12 @@ use Rattle.search_law.proofs.Successors.{any}
 use Rattle.search_law.proofs.Takes.{opened_row, taken_within, in_rows, goal_taken, taken_short, all_opened, nothing_left, NowOpen, now_open}
 use Rattle.search_law.proofs.Traces.{back_plan, came_facts}
 use Rattle.search_law.proofs.Endings.{told_like}
-use Rattle.search.proofs.Leaving.{leaves_refl, leaves_trans}
+use Rattle.search.proofs.Leaving.{leaves_trans}
 use Rattle.search.proofs.run.run.Goals as goal
 
 pub loop-taken-init : goal.loop-taken-init
 loop-taken-init g c =
-    (c.requires.stands, λ _ _. refl, omega arith, refl, refl, refl, leaves_refl g.met.E.Estimator.stays, λ h. h, λ h. h.1, λ _ _. c.requires.thrifty)
+    (c.requires.stands, λ _ _. refl, omega arith, refl, refl, refl, record { still_fits = λ _ h. h; fitted = λ _ h. h; same_value = λ _. refl; still_agrees = λ h. h }, λ h. h, λ h. h.1, λ _ _. c.requires.thrifty)
 
 pub returns : goal.returns
 returns g c =
@@ -38,7 +38,6 @@ returns g c =
           steps = inv.5;
         };
         recorded = inv.0.kept.base;
-        tree = inv.0.sized.tree;
         told = inv.8;
         thrifty = inv.9;
         long = inv.3;
@@ -114,7 +113,6 @@ returns-then-has-goal g c =
           met = inv.0.kept.met;
         };
         recorded = inv.0.kept.base;
-        tree = inv.0.sized.tree;
         told = inv.8;
         thrifty = inv.9;
         long = inv.3;
@@ -178,7 +176,6 @@ returns-then-not-open g c =
       ran = record {
         says = record { full = over.full ∙ long; new = (i, a, over.over); steps = inv.5 };
         recorded = (subst (λ z. Overfull p z after i a) start over).base;
-        tree = over.tree;
         told = told;
         thrifty = λ agrees sound. mv.thrifty (o.thrifty v law (inv.8 agrees) (h.least (inv.7 sound)) (inv.9 agrees sound));
         long = long;
@@ -186,7 +183,7 @@ returns-then-not-open g c =
         rest = λ n le. mv.rest n le ∙ o.rest n (omega (arith, mv.more)) ∙ inv.1 n (omega (arith, mv.more));
         space = mv.space ∙ o.space ∙ inv.4;
       };
-      leaves = leaves_trans g.met.E.Estimator.onward inv.6 x.leaves;
+      leaves = leaves_trans inv.6 x.leaves;
       keeps = λ z. x.keeps (h.keeps (inv.7 z));
     }
 
@@ -223,7 +220,7 @@ loop-taken-preserved g c =
       mv.long ∙ o.long ∙ inv.3,
       mv.space ∙ o.space ∙ inv.4,
       inv.5,
-      leaves_trans g.met.E.Estimator.onward inv.6 x.leaves,
+      leaves_trans inv.6 x.leaves,
       λ z. x.keeps (h.keeps (inv.7 z)),
       told,
       λ agrees sound. mv.thrifty (o.thrifty v law (inv.8 agrees) (h.least (inv.7 sound)) (inv.9 agrees sound)),

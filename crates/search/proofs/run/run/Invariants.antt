@@ -16,7 +16,7 @@ invariant-loop-taken g l =
     × (length l.rows ≡ length l.initial.rows)
     × (length (g.Q.Queue.pairs l.queue) ≡ length (g.Q.Queue.pairs l.initial.queue))
     × (l.steps ≡ l.initial.steps)
-    × Leaves g.E.Estimator.suits g.E.Estimator.value g.E.Estimator.agrees g.E.Estimator.leads l.initial.est l.est
+    × Leaves g.E.Estimator.suits g.E.Estimator.value g.E.Estimator.agrees l.initial.est l.est
     × (g.Q.Queue.sound l.initial.queue → g.Q.Queue.sound l.queue)
     × (g.E.Estimator.agrees l.initial.est × Told (g.E.Estimator.value l.initial.est) (view l.initial.rows 1) → Told (g.E.Estimator.value l.initial.est) (view l.rows l.used))
     × (g.E.Estimator.agrees l.initial.est × Told (g.E.Estimator.value l.initial.est) (view l.initial.rows 1) → g.Q.Queue.sound l.initial.queue → Thrifty (problem l.task) (first l.initial.rows) (view l.rows l.used))

@@ -11,7 +11,7 @@ use Rattle.search_law.specs.Boards.{board, first, enqueued, Standing, Ran}
 use Rattle.search_law.proofs.Keys.{enq_long}
 use Rattle.search_law.proofs.Opens.{begun}
 use Rattle.search_law.proofs.Endings.{never_full, says_map, told_like}
-use Rattle.search.proofs.Leaving.{leaves_refl, leaves_trans}
+use Rattle.search.proofs.Leaving.{leaves_trans}
 use Rattle.search.proofs.search.search.Goals as goal
 
 pub begin-requires : goal.begin-requires
@@ -41,7 +41,7 @@ returns-in-Some g c =
     record {
       law = (c.in-Some.ensures, refl);
       untouched = (refl, refl);
-      leaves = leaves_refl g.met.E.Estimator.stays;
+      leaves = record { still_fits = λ _ h. h; fitted = λ _ h. h; same_value = λ _. refl; still_agrees = λ h. h };
       keeps = λ h. h;
     }
 
@@ -79,7 +79,6 @@ returns g c =
           enough = never_full p (standing start) (agrees e0) (sound c.args.queue.now) (memory rows out t) (memory last c.run-outcome.new.steps n) o r.recorded says;
           memory = record {
             recorded = r.recorded;
-            tree = r.tree;
             reached = reached p (standing start) (view last (used_of o)) r.recorded;
             told = λ h. told_like (v e1) (v e0) (view last (used_of o)) leaves.same_value (r.told (trust h));
             thrifty = λ h z. r.thrifty (trust h) (c.begin.ensures.keeps z);
@@ -91,6 +90,6 @@ returns g c =
         },
       );
       untouched = tt;
-      leaves = leaves_trans g.met.E.Estimator.onward leaves c.run-outcome.ensures.leaves;
+      leaves = leaves_trans leaves c.run-outcome.ensures.leaves;
       keeps = λ z. d.keeps (c.run-outcome.ensures.keeps (c.begin.ensures.keeps z));
     }

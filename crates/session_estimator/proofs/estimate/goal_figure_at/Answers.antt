@@ -20,7 +20,7 @@ returns-in-Ok g c =
       figure = λ room snd.
           let (f, e, h) = answered g.Q.Queue.sound g.Q.Queue.pairs s t v u c.args.docket.now c.settle.new.docket c.settle.result (Ok c.in-Ok.figure) c.follow.ensures c.settle.ensures.answer c.settle.ensures.figures c.in-Ok.ensures.answer room snd in
           ap rank (same_ok e) ∙ h;
-      leads = leads_asked g.Q.Queue.sound g.Q.Queue.pairs s t v u c.args.docket.now c.settle.new.docket c.settle.result _ _ c.follow.ensures c.settle.ensures.answer c.settle.ensures.keeps c.settle.ensures.capacity c.settle.ensures.law c.goal_figure.ensures.law;
+      leads = leads_asked g.Q.Queue.sound g.Q.Queue.pairs s t v u c.args.docket.now c.settle.new.docket c.settle.result _ _ c.follow.ensures c.settle.ensures.answer c.settle.ensures.keeps c.settle.ensures.law c.goal_figure.ensures.law;
     }
 
 pub returns-in-Err : goal.returns-in-Err
@@ -31,5 +31,5 @@ returns-in-Err g c =
       figure = λ room snd.
           let (f, e, h) = answered g.Q.Queue.sound g.Q.Queue.pairs s t v u c.args.docket.now c.settle.new.docket c.settle.result c.goal_figure.result c.follow.ensures c.settle.ensures.answer c.settle.ensures.figures c.goal_figure.ensures.answer room snd in
           absurd (no_err (sym c.in-Err.is ∙ e));
-      leads = leads_asked g.Q.Queue.sound g.Q.Queue.pairs s t v u c.args.docket.now c.settle.new.docket c.settle.result _ _ c.follow.ensures c.settle.ensures.answer c.settle.ensures.keeps c.settle.ensures.capacity c.settle.ensures.law c.goal_figure.ensures.law;
+      leads = leads_asked g.Q.Queue.sound g.Q.Queue.pairs s t v u c.args.docket.now c.settle.new.docket c.settle.result _ _ c.follow.ensures c.settle.ensures.answer c.settle.ensures.keeps c.settle.ensures.law c.goal_figure.ensures.law;
     }

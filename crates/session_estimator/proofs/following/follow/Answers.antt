@@ -2,7 +2,7 @@ use Rattle.std.proofs.Common.{◌≡◌, ◌<◌, ◌≤◌, sym, ap, ◌∙◌,
 use Rattle.model.specs.Figures.{max_rule}
 use Rattle.strips.specs.Standing.{standing}
 use Rattle.session_estimator.specs.Estimating.{Followed, Aligned}
-use Rattle.session_estimator.specs.Follows.{followed_none, followed_more}
+use Rattle.session_estimator.proofs.Follows.{followed_none, followed_more}
 use Rattle.session_estimator.proofs.following.follow.Goals as goal
 
 pub loop-fact-init : goal.loop-fact-init

@@ -7,5 +7,5 @@ use Rattle.solve.proofs.side.figure_at.Goals as goal
 
 pub returns-in-None : goal.returns-in-None
 returns-in-None c =
-    let missed : false ≡ ltb c.args.item (length c.args.figures.now) = c.in-None.ensures.finds.0 in
+    let missed : false ≡ ltb c.args.item (length c.args.figures.now) = c.in-None.ensures.lookup.0 in
     sym (ap rank (get_or_past c.args.figures.now c.args.item None (ltb-false _ _ (sym missed))))

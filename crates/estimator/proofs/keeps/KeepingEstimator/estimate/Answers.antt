@@ -17,7 +17,7 @@ returns-in-Some g c =
     let v = g.E.Estimator.value k.inner in
     record {
       figure = λ h. again_figure v (kept k) _ state _ h.right a;
-      leaves = record { still_fits = λ _ h. h; fitted = λ _ h. h; same_value = λ _. refl; still_agrees = λ h. record { inner = h.inner; right = again_right v (kept k) _ state _ h.right a }; led = g.met.E.Estimator.stays k.inner };
+      leaves = record { still_fits = λ _ h. h; fitted = λ _ h. h; same_value = λ _. refl; still_agrees = λ h. record { inner = h.inner; right = again_right v (kept k) _ state _ h.right a } };
       keeps = inl a;
     }
 
@@ -38,7 +38,6 @@ returns g c =
         fitted = est.leaves.fitted;
         same_value = est.leaves.same_value;
         still_agrees = λ h. record { inner = est.leaves.still_agrees h.inner; right = right_same v _ _ est.leaves.same_value (first_right v (kept k) _ state f h.right (est.figure h.inner) a) };
-        led = est.leaves.led;
       };
       keeps = inr a;
     }

@@ -18,7 +18,6 @@ returns-in-Enter g c =
     let ds = vec_items c.args.dockets.now in
     record {
       base = entering_base s t _ c.enter.result c.enter.ensures.answer;
-      capacity = c.enter.ensures.capacity;
       keeps = c.enter.ensures.keeps;
       law =
           subst (λ (k : CallValue). (n : ℕ) → Stocked (weight k + n) rows ds → Goes g.R.CostRule.result g.Q.Queue.sound g.Q.Queue.pairs s (call_of k) (reply_of c.told.result) t × Stocked n rows ds) (sym c.in-Enter.is)
@@ -33,7 +32,6 @@ returns-in-Strike g c =
     let ds = vec_items c.args.dockets.now in
     record {
       base = striking_base s t _ c.strike.result c.strike.ensures.answer;
-      capacity = c.strike.ensures.capacity;
       keeps = c.strike.ensures.keeps;
       law =
           subst (λ (k : CallValue). (n : ℕ) → Stocked (weight k + n) rows ds → Goes g.R.CostRule.result g.Q.Queue.sound g.Q.Queue.pairs s (call_of k) (reply_of c.told-in-Strike.result) t × Stocked n rows ds) (sym c.in-Strike.is)
@@ -48,7 +46,6 @@ returns-in-Figure g c =
     let ds = vec_items c.args.dockets.now in
     record {
       base = refl;
-      capacity = refl;
       keeps = λ sd. sd;
       law =
           subst (λ (k : CallValue). (n : ℕ) → Stocked (weight k + n) rows ds → Goes g.R.CostRule.result g.Q.Queue.sound g.Q.Queue.pairs s (call_of k) (reply_of c.shown.result) t × Stocked n rows ds) (sym c.in-Figure.is)
@@ -63,7 +60,6 @@ returns-in-Goal g c =
     let ds = vec_items c.args.dockets.now in
     record {
       base = refl;
-      capacity = refl;
       keeps = λ sd. sd;
       law =
           subst (λ (k : CallValue). (n : ℕ) → Stocked (weight k + n) rows ds → Goes g.R.CostRule.result g.Q.Queue.sound g.Q.Queue.pairs s (call_of k) (reply_of c.shown-in-Goal.result) t × Stocked n rows ds) (sym c.in-Goal.is)
@@ -79,7 +75,6 @@ returns-in-Some g c =
     let es = vec_items c.pop.new.self in
     record {
       base = c.settle-on.ensures.base;
-      capacity = c.settle-on.ensures.capacity;
       keeps = c.settle-on.ensures.keeps;
       law =
           subst (λ (k : CallValue). (n : ℕ) → Stocked (weight k + n) rows ds → Goes g.R.CostRule.result g.Q.Queue.sound g.Q.Queue.pairs s (call_of k) (reply_of c.settle-on.result) t × Stocked n rows es) (sym c.in-Settle.is)
@@ -96,7 +91,6 @@ returns-in-None g c =
     let none : vec_len ds ≡ 0 = c.in-None.ensures.cases.0 in
     record {
       base = refl;
-      capacity = refl;
       keeps = λ sd. sd;
       law = λ n st. absurd (let many : length (vec_items ds) ≡ 1 + n = subst (λ (k : CallValue). length (vec_items ds) ≡ weight k + n) c.in-Settle.is st.many in omega (arith, many, none, ds.ok.0));
     }

@@ -26,7 +26,7 @@ returns-in-Ok g c =
     let pairs = g.Q.Queue.pairs c.args.queue in
     let fit = both_true (vacant pairs) (leb (items p) (length pairs)) c.requires.was_ready in
     record {
-      opens = record { was_ready = c.requires.was_ready; on_task = refl; by_rule = refl; facts = c.start-state-state.ensures; figures = e.held; settled = refl; capacity = e.capacity };
+      opens = record { was_ready = c.requires.was_ready; on_task = refl; by_rule = refl; facts = c.start-state-state.ensures; figures = e.held; settled = refl };
       led = λ sd. record {
         sound = record {
           queue = e.keeps sd;

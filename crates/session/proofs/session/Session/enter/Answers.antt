@@ -11,7 +11,7 @@ pub returns-then-fact-facts : goal.returns-then-fact-facts
 returns-then-fact-facts g c =
     let s = c.args.self.now in
     let a : Entering s s c.args.fact (Err Unknown) = (omega (arith, c.if-fact-facts.true, c.facts.ensures.is), refl, refl) in
-    record { answer = a; capacity = refl; keeps = λ sd. sd; law = enter_goes g.R.CostRule.result g.Q.Queue.sound g.Q.Queue.pairs s s c.args.fact (λ sd. sd) (Err Unknown) a }
+    record { answer = a; keeps = λ sd. sd; law = enter_goes g.R.CostRule.result g.Q.Queue.sound g.Q.Queue.pairs s s c.args.fact (λ sd. sd) (Err Unknown) a }
 
 pub returns-then-insert : goal.returns-then-insert
 returns-then-insert g c =
@@ -25,11 +25,11 @@ returns-then-insert g c =
     let was : standing s.state f ≡ false = not_true _ (sym c.insert.ensures.told ∙ c.if-insert.true) in
     let a : Entering s t f (Ok true) =
     (omega (arith, c.if-fact-facts.false, c.facts.ensures.is), was, record { base = m.base; figures = m.figures; facts = ap standing m.state ∙ after; settled = m.settled }) in
-    record { answer = a; capacity = c.restand.ensures.capacity; keeps = keeps; law = enter_goes g.R.CostRule.result g.Q.Queue.sound g.Q.Queue.pairs s t f keeps (Ok true) a }
+    record { answer = a; keeps = keeps; law = enter_goes g.R.CostRule.result g.Q.Queue.sound g.Q.Queue.pairs s t f keeps (Ok true) a }
 
 pub returns : goal.returns
 returns g c =
     let s = c.args.self.now in
     let was : standing s.state c.args.fact ≡ true = not_false _ (sym c.insert.ensures.told ∙ c.if-insert.false) in
     let a : Entering s s c.args.fact (Ok false) = (omega (arith, c.if-fact-facts.false, c.facts.ensures.is), was, refl) in
-    record { answer = a; capacity = refl; keeps = λ sd. sd; law = enter_goes g.R.CostRule.result g.Q.Queue.sound g.Q.Queue.pairs s s c.args.fact (λ sd. sd) (Ok false) a }
+    record { answer = a; keeps = λ sd. sd; law = enter_goes g.R.CostRule.result g.Q.Queue.sound g.Q.Queue.pairs s s c.args.fact (λ sd. sd) (Ok false) a }

@@ -15,7 +15,7 @@ returns-in-Ok-open g c =
     let past = fresh (problem c.args.task) in
     let calls = map call_of c.args.calls.now in
     record {
-      opens = record { was_ready = o.opens.was_ready; on_task = ap (λ b. b.task) r.base ∙ o.opens.on_task; by_rule = ap (λ b. b.rule) r.base ∙ o.opens.by_rule; capacity = r.capacity ∙ o.opens.capacity };
+      opens = record { was_ready = o.opens.was_ready; on_task = ap (λ b. b.task) r.base ∙ o.opens.on_task; by_rule = ap (λ b. b.rule) r.base ∙ o.opens.by_rule };
       law = λ sd.
           subst (λ u. Rights (problem c.args.task) (result u) past calls (map reply_of (vec_items c.run-answers.result))) o.opens.by_rule
           (subst (λ (t : Task). Rights (problem t) (result s.base.rule) past calls (map reply_of (vec_items c.run-answers.result))) o.opens.on_task (r.law past (o.led sd)).0);

@@ -14,7 +14,6 @@ returns g c =
     let q = c.from.result in
     record {
       moves = record { base = refl; figures = c.refresh.ensures.held; state = refl; settled = refl };
-      capacity = c.refresh.ensures.capacity;
       keeps = λ same sd. record {
         queue = c.refresh.ensures.keeps sd.queue;
         linked = sd.linked;

@@ -14,7 +14,7 @@ use Rattle.session.proofs.session.Session.run.Goals as goal
 pub loop-call-init : goal.loop-call-init
 loop-call-init g c =
     let a = c.args.room.answers in
-    (omega (arith, ap length c.requires.none_yet, a.ok.0), c.requires.places, refl, (λ sd. sd), c.requires.stocked, working_none g.R.CostRule.result g.Q.Queue.sound g.Q.Queue.pairs c.args.self.now (vec_items a) c.requires.none_yet, refl)
+    (omega (arith, ap length c.requires.none_yet, a.ok.0), c.requires.places, refl, (λ sd. sd), c.requires.stocked, working_none g.R.CostRule.result g.Q.Queue.sound g.Q.Queue.pairs c.args.self.now (vec_items a) c.requires.none_yet)
 
 pub loop-call-preserved : goal.loop-call-preserved
 loop-call-preserved g c =
@@ -39,7 +39,6 @@ loop-call-preserved g c =
       (λ sd. e.keeps (inv.3 sd)),
       subst (λ (b : Base g.row.R.Denot). Stocked (settles rest) (2 * items (problem b.task)) es) inv.2 r.1,
       working_more g.R.CostRule.result g.Q.Queue.sound g.Q.Queue.pairs s u t (take i calls) (take (i + 1) calls) (vec_items c.loop-call.answers) (vec_items c.push-reserved.new.self) k c.ask-one.result inv.2 (take_more calls i (Enter 0) c.loop-call-test.true) c.push-reserved.ensures.items inv.5 r.0,
-      e.capacity ∙ inv.6,
     )
 
 pub returns : goal.returns
@@ -48,7 +47,6 @@ returns g c =
     let inv = c.loop-call.invariant in
     record {
       base = inv.2;
-      capacity = inv.6;
       keeps = inv.3;
       law = subst (λ (l : List CallValue). Working g.R.CostRule.result g.Q.Queue.sound g.Q.Queue.pairs s l (vec_items c.loop-call.answers) c.loop-call.self) (take_all c.loop-call.call-index c.args.calls.now c.loop-call-test.false) inv.5;
     }

@@ -1,6 +1,6 @@
 use Rattle.std.proofs.Common.{◌≡◌, ◌*◌, ◌≤◌, length, take, drop, vec_items, vec_len, vec_capacity}
 use Rattle.model.specs.Strips.{items}
-use Rattle.session.specs.Sessions.{SameCapacity, task_of, Sound}
+use Rattle.session.specs.Sessions.{task_of, Sound}
 use Rattle.session.specs.Rooms.{settles, Stocked}
 use Rattle.session.specs.Works.{Working}
 use Rattle.session.proofs.session.Session.run.Given as goal
@@ -13,4 +13,3 @@ invariant-loop-call g l =
     × (Sound g.R.CostRule.result g.Q.Queue.sound g.Q.Queue.pairs l.initial.self → Sound g.R.CostRule.result g.Q.Queue.sound g.Q.Queue.pairs l.self)
     × Stocked (settles (drop l.call-index l.calls)) (2 * items (task_of l.initial.self)) (vec_items l.dockets)
     × Working g.R.CostRule.result g.Q.Queue.sound g.Q.Queue.pairs l.initial.self (take l.call-index l.calls) (vec_items l.answers) l.self
-    × SameCapacity g.Q.Queue.pairs l.initial.self l.self

@@ -13,7 +13,6 @@ returns-then-docket-rows-needed g c =
     let a : Settles s s d d (Err DocketShort) = (omega (arith, c.if-docket-rows-needed.true, c.rows-needed.ensures), refl, refl, refl) in
     record {
       answer = a;
-      capacity = refl;
       keeps = λ sd. sd;
       figures = λ sd. tt;
       law = settle_goes g.R.CostRule.result g.Q.Queue.sound g.Q.Queue.pairs s s (λ sd. sd) d d (length d) (Err DocketShort) a (λ sd. tt) (omega arith) (λ _. refl);
@@ -27,16 +26,15 @@ returns g c =
     let n = c.settle-n.result in
     let last = c.settle-n.new.docket in
     let enough : 2 * items (problem s.base.task) ≤ length d = omega (arith, c.if-docket-rows-needed.false, c.rows-needed.ensures) in
-    let done = λ (sd : Sound g.R.CostRule.result g.Q.Queue.sound g.Q.Queue.pairs s). e.after sd.queue (record { linked = sd.linked; long = s.long }) sd.keeping in
+    let done = λ (sd : Sound g.R.CostRule.result g.Q.Queue.sound g.Q.Queue.pairs s). e.after sd.queue (record { linked = sd.linked; long = s.long }) sd.keeping enough in
     record {
       answer = record { enough = enough; within = e.within; later = e.later; base = refl; state = refl; settled = refl };
-      capacity = e.capacity;
-      keeps = λ sd. record { queue = e.keeps sd.queue; linked = sd.linked; keeping = (done sd).keeping; solved = λ _. (done sd).solves enough };
-      figures = λ sd. ((done sd).solves enough, (done sd).docket);
+      keeps = λ sd. record { queue = e.keeps sd.queue; linked = sd.linked; keeping = (done sd).keeping; solved = λ _. (done sd).solves };
+      figures = λ sd. ((done sd).solves, (done sd).docket);
       law =
           settle_goes g.R.CostRule.result g.Q.Queue.sound g.Q.Queue.pairs s _
-          (λ sd. record { queue = e.keeps sd.queue; linked = sd.linked; keeping = (done sd).keeping; solved = λ _. (done sd).solves enough })
+          (λ sd. record { queue = e.keeps sd.queue; linked = sd.linked; keeping = (done sd).keeping; solved = λ _. (done sd).solves })
           d last (length d) (Ok n)
           (record { enough = enough; within = e.within; later = e.later; base = refl; state = refl; settled = refl })
-          (λ sd. ((done sd).solves enough, (done sd).docket)) (omega arith) (λ _. refl);
+          (λ sd. ((done sd).solves, (done sd).docket)) (omega arith) (λ _. refl);
     }

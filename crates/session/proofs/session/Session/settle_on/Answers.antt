@@ -19,7 +19,6 @@ returns-in-Ok g c =
     c.truncate-in-Ok.ensures.items ∙ ap (take n) (with_items_is c.truncate.new.self last (c.settle.auto.docket ∙ c.deref-mut.ensures.len)) in
     record {
       base = e.answer.base;
-      capacity = e.capacity;
       keeps = e.keeps;
       law = λ long.
           subst (λ (y : Reply). Goes g.R.CostRule.result g.Q.Queue.sound g.Q.Queue.pairs s (settle c.args.rows) y t) (ap (λ l. wrote (map row_of l)) (sym rows))
@@ -32,7 +31,6 @@ returns-in-Err g c =
     let e = c.in-Err.ensures in
     record {
       base = ap (λ v. v.base) e.answer.2;
-      capacity = e.capacity;
       keeps = e.keeps;
       law = λ long.
           settle_goes g.R.CostRule.result g.Q.Queue.sound g.Q.Queue.pairs c.args.self.now c.settle.new.self e.keeps c.deref-mut.result.now c.settle.new.docket c.args.rows (Err c.in-Err.fault) e.answer e.figures

@@ -29,7 +29,6 @@ returns-in-Ok g c =
     record {
       held = ap vec_items c.refresh-every.ensures.held ∙ a;
       keeps = c.refresh-every.ensures.keeps;
-      capacity = c.refresh-every.ensures.capacity;
       after = λ linked none room.
           c.refresh-every.ensures.after (record { linked = linked; long = omega (arith, ap length a, length-replicate n None, l.0.ok.0) })
           (subst (λ (v : List Figure). Stale F v (vec_items l.1) pairs (λ _. true)) (sym a)

@@ -9,7 +9,6 @@ use Rattle.session_theory.specs.Kept.{due}
 use Rattle.session_theory.proofs.Queues.{stale_more, stale_skip}
 use Rattle.session_theory.proofs.Sides.{at_past}
 use Rattle.settling.specs.Holding.{equations_of}
-use Rattle.settling.proofs.Loops.{again}
 use Rattle.settling.proofs.held.HeldFigures.refresh.Goals as goal
 
 pub returns-then-item-len : goal.returns-then-item-len
@@ -25,8 +24,6 @@ returns-then-item-len g c =
     let long : length right ≡ length held = omega (arith, h.level, h.figures.ok.0, h.sides.ok.0) in
     record {
       keeps = c.adjust.ensures.keeps;
-      capacity = c.adjust.ensures.capacity;
-      beyond = λ far. absurd (omega (arith, far, c.if-item-len.true, c.len.ensures));
       held = refl;
       after = λ fit stale t.
           stale_more F held right (pairs h.queue) stale t q (set right q side) (pairs c.adjust.new.queue) side within long
@@ -42,8 +39,6 @@ returns-else-item-len g c =
     let F = equations_of g.R.CostRule.result c.args.base.now c.args.state.now in
     record {
       keeps = λ s. s;
-      capacity = refl;
-      beyond = λ _. again h _;
       held = refl;
       after = λ fit stale t.
           stale_skip F held (vec_items h.sides) (g.Q.Queue.pairs h.queue) stale t q

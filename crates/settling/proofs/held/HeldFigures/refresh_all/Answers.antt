@@ -23,7 +23,6 @@ loop-item-preserved g c =
           stale_weaker F (vec_items m.figures) (vec_items m.sides) (g.Q.Queue.pairs m.queue) (struck x (names (drop i l))) (names (drop (i + 1) l))
           (λ r a. struck_first x (drop (i + 1) l) r (subst (λ v. struck x (names v) r ≡ true) cut a))
           (e.after (record { linked = fit.linked; long = ap (λ v. vec_len v) inv.1 ∙ fit.long }) (names (drop i l)) (inv.2 fit t)),
-      e.capacity ∙ inv.3,
     )
 
 pub returns : goal.returns
@@ -34,7 +33,6 @@ returns g c =
     let F = equations_of g.R.CostRule.result c.args.base.now c.args.state.now in
     record {
       keeps = inv.0;
-      capacity = inv.3;
       held = inv.1;
       after = λ fit t.
           stale_none F (vec_items k.figures) (vec_items k.sides) (g.Q.Queue.pairs k.queue)

@@ -1,4 +1,4 @@
-use Rattle.std.proofs.Common.{◌≡◌, length, drop}
+use Rattle.std.proofs.Common.{◌≡◌, drop}
 use Rattle.model.specs.Strips.{names}
 use Rattle.settling.specs.Holding.{Fitting, Lapsing}
 use Rattle.settling.proofs.held.HeldFigures.refresh_all.Given as goal
@@ -9,4 +9,3 @@ invariant-loop-item g l =
     × (l.self.figures ≡ l.initial.self.figures)
     × (Fitting l.base l.initial.self → Lapsing g.R.CostRule.result g.Q.Queue.pairs l.base l.state l.initial.self (names l.items)
     → Lapsing g.R.CostRule.result g.Q.Queue.pairs l.base l.state l.self (names (drop l.item-index l.items)))
-    × (length (g.Q.Queue.pairs l.self.queue) ≡ length (g.Q.Queue.pairs l.initial.self.queue))

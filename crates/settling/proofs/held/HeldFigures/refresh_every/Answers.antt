@@ -13,7 +13,7 @@ pub loop-item-init : goal.loop-item-init
 loop-item-init g c =
     let h = c.args.self.now in
     let F = equations_of g.R.CostRule.result c.args.base.now c.args.state.now in
-    ((λ s. s), refl, λ fit t. stale_weaker F (vec_items h.figures) (vec_items h.sides) (g.Q.Queue.pairs h.queue) (λ _. true) (λ r. leb 0 r) (λ r _. le-leb 0 r (omega arith)) t, refl)
+    ((λ s. s), refl, λ fit t. stale_weaker F (vec_items h.figures) (vec_items h.sides) (g.Q.Queue.pairs h.queue) (λ _. true) (λ r. leb 0 r) (λ r _. le-leb 0 r (omega arith)) t)
 
 pub loop-item-preserved : goal.loop-item-preserved
 loop-item-preserved g c =
@@ -27,7 +27,6 @@ loop-item-preserved g c =
       λ fit t.
           stale_weaker F (vec_items m.figures) (vec_items m.sides) (g.Q.Queue.pairs m.queue) (struck i (λ r. leb i r)) (λ r. leb (i + 1) r) (struck_from i)
           (e.after (record { linked = fit.linked; long = ap (λ v. vec_len v) inv.1 ∙ fit.long }) (λ r. leb i r) (inv.2 fit t)),
-      e.capacity ∙ inv.3,
     )
 
 pub returns : goal.returns
@@ -38,7 +37,6 @@ returns g c =
     let F = equations_of g.R.CostRule.result base c.args.state.now in
     record {
       keeps = inv.0;
-      capacity = inv.3;
       held = inv.1;
       after = λ fit t.
           let same = ap (λ v. vec_len v) inv.1 in

@@ -1,4 +1,4 @@
-use Rattle.std.proofs.Common.{◌≡◌, true, leb, length}
+use Rattle.std.proofs.Common.{◌≡◌, true, leb}
 use Rattle.settling.specs.Holding.{Fitting, Lapsing}
 use Rattle.settling.proofs.held.HeldFigures.refresh_every.Given as goal
 
@@ -8,4 +8,3 @@ invariant-loop-item g l =
     × (l.self.figures ≡ l.initial.self.figures)
     × (Fitting l.base l.initial.self → Lapsing g.R.CostRule.result g.Q.Queue.pairs l.base l.state l.initial.self (λ _. true)
     → Lapsing g.R.CostRule.result g.Q.Queue.pairs l.base l.state l.self (λ r. leb l.item r))
-    × (length (g.Q.Queue.pairs l.self.queue) ≡ length (g.Q.Queue.pairs l.initial.self.queue))

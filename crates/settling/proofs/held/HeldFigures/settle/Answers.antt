@@ -1,4 +1,4 @@
-use Rattle.std.proofs.Common.{◌≡◌, ℕ, ◌+◌, ◌<◌, ◌≤◌, List, map, length, take, vec_items, vec_len, sym, refl, ap, ◌∙◌, subst, inl, inr, arith, length-set}
+use Rattle.std.proofs.Common.{◌≡◌, ℕ, ◌+◌, ◌<◌, ◌≤◌, List, map, length, take, vec_items, vec_len, sym, refl, ap, ◌∙◌, subst, arith, length-set}
 use Rattle.figure.specs.declared.figure.Figure.{Figure}
 use Rattle.model.specs.Strips.{items}
 use Rattle.model.specs.Figures.{table, Solves}
@@ -12,7 +12,7 @@ use Rattle.settling.proofs.held.HeldFigures.settle.Goals as goal
 use Rattle.model.specs.Settling.Settling.{begun}
 
 pub loop-n-init : goal.loop-n-init
-loop-n-init g c = (omega arith, refl, refl, (λ s. s), λ s fit k. (k, begun), refl)
+loop-n-init g c = (omega arith, refl, refl, (λ s. s), λ s fit k. (k, begun))
 
 pub loop-n-smaller : goal.loop-n-smaller
 loop-n-smaller g c = omega (arith, c.loop-n-test.true, c.loop-n.auto.docket)
@@ -35,7 +35,6 @@ loop-n-preserved g c =
           let was = inv.4 s fit kept in
           let m = e.after (inv.3 s) (record { linked = fit.linked; long = inv.2 ∙ fit.long }) was.0 in
           (m.keeping, rows_more F (vec_items h.figures) (vec_items k.figures) (vec_items c.turn.new.self.figures) d n w was.1 c.loop-n-test.true m.step m.before m.after),
-      e.capacity ∙ inv.5,
     )
 
 pub returns-in-None : goal.returns-in-None
@@ -50,18 +49,15 @@ returns-in-None g c =
     let F = equations_of g.R.CostRule.result base c.args.state.now in
     record {
       keeps = λ s. e.keeps (inv.3 s);
-      capacity = e.capacity ∙ inv.5;
       long = e.long ∙ inv.2;
       within = omega (arith, inv.0, c.loop-n.auto.docket);
       later = inv.1;
-      after = λ s fit kept.
+      after = λ s fit kept enough.
           let was = inv.4 s fit kept in
           let r = e.after (inv.3 s) (record { linked = fit.linked; long = inv.2 ∙ fit.long }) was.0 in
           let doc = run_docket (g.R.CostRule.result base.rule) (g.met.R.CostRule.lawful base.rule) (problem base.task) (standing c.args.state.now) (vec_items h.figures) (vec_items k.figures) d n (omega (arith, fit.long, h.figures.ok.0)) was.1 in
-          let solved : Solves F (table (vec_items c.turn.new.self.figures)) = subst (λ (v : List Figure). Solves F (table v)) (sym r.after) r.solves in
           record {
-            ends = inl solved;
-            solves = λ _. solved;
+            solves = subst (λ (v : List Figure). Solves F (table v)) (sym r.after) r.solves;
             docket = subst (λ (v : List Figure). Docket (vec_items h.figures) v (map row_of (take n d))) (sym r.after) doc;
             keeping = r.keeping;
           };
@@ -81,16 +77,14 @@ returns g c =
     let st = standing c.args.state.now in
     record {
       keeps = inv.3;
-      capacity = inv.5;
       long = inv.2;
       within = omega (arith, inv.0, c.loop-n.auto.docket);
       later = inv.1;
-      after = λ s fit kept.
+      after = λ s fit kept enough.
           let was = inv.4 s fit kept in
           let long : length (vec_items h.figures) ≡ items p = omega (arith, fit.long, h.figures.ok.0) in
           record {
-            ends = inr (omega (arith, inv.0, c.loop-n-test.false, c.loop-n.auto.docket));
-            solves = λ enough. run_spent rule laws p st (vec_items h.figures) (vec_items k.figures) d n long was.1 (omega (arith, enough, c.loop-n-test.false, c.loop-n.auto.docket)) inv.0;
+            solves = run_spent rule laws p st (vec_items h.figures) (vec_items k.figures) d n long was.1 (omega (arith, enough, c.loop-n-test.false, c.loop-n.auto.docket)) inv.0;
             docket = run_docket rule laws p st (vec_items h.figures) (vec_items k.figures) d n long was.1;
             keeping = was.0;
           };

@@ -12,7 +12,6 @@ invariant-loop-n g l =
     × (g.Q.Queue.sound l.initial.self.queue → Fitting l.base l.initial.self → Keeping g.R.CostRule.result g.Q.Queue.pairs l.base l.state l.initial.self
     → Keeping g.R.CostRule.result g.Q.Queue.pairs l.base l.state l.self
     × Settling (equations_of g.R.CostRule.result l.base l.state) (vec_items l.initial.self.figures) (vec_items l.self.figures) (map row_of (take l.n l.docket)))
-    × (length (g.Q.Queue.pairs l.self.queue) ≡ length (g.Q.Queue.pairs l.initial.self.queue))
 
 abbrev pub decreases-loop-n : goal.decreases-loop-n
 decreases-loop-n g l = length l.initial.docket - l.n

@@ -23,7 +23,6 @@ returns-then-item-len g c =
     let found = c.in-Some.found in
     record {
       keeps = e.keeps;
-      capacity = ap length e.after.2 ∙ length-set (g.Q.Queue.pairs h.queue) found.0 option.None;
       long = refl;
       after = λ sd fit k.
           absurd (omega (
@@ -56,7 +55,6 @@ returns-else-item-len g c =
     let next : f ≡ moved (get_or held q None) (get_or right q None) = c.moved-from-after.ensures ∙ ap₂ moved before side in
     record {
       keeps = λ sd. c.refresh-all.ensures.keeps (c.adjust.ensures.keeps (e.keeps sd));
-      capacity = c.refresh-all.ensures.capacity ∙ c.adjust.ensures.capacity ∙ ap length e.after.2 ∙ length-set (pairs h.queue) q option.None;
       long = ap (λ v. vec_len v) c.refresh-all.ensures.held;
       after = λ sd fit k. record {
         step = subst (λ (v : Figure). Step F held q v) (sym next) (stepped F held right (pairs h.queue) k q m e.after.1 long (e.least sd));
@@ -78,7 +76,6 @@ returns-in-None g c =
     let F = equations_of g.R.CostRule.result c.args.base.now c.args.state.now in
     record {
       keeps = e.keeps;
-      capacity = ap length e.after.1;
       long = refl;
       after = λ sd fit k. record {
         solves = empty_solves F (vec_items h.figures) (vec_items h.sides) (g.Q.Queue.pairs h.queue) k e.after.0;

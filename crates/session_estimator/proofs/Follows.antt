@@ -1,6 +1,5 @@
 -- Facts moved one after another. Assumes nothing.
-use Rattle.std.specs.Prelude.{◌≡◌, ℕ, suc, ◌+◌, ◌<◌, ◌≤◌, Bool, List, [], ◌∷◌, ◌++◌, Option, refl}
-use Rattle.std.proofs.Common.{ap, sym, subst, ◌∙◌, arith, below_more}
+use Rattle.std.proofs.Common.{◌≡◌, ℕ, suc, ◌+◌, ◌<◌, ◌≤◌, Bool, List, [], ◌∷◌, ◌++◌, Option, sym, refl, ap, ◌∙◌, subst, arith, below_more}
 use Rattle.figure.specs.declared.figure.Figure.{Figure}
 use Rattle.strips.specs.Tasks.{problem}
 use Rattle.model.specs.Strips.{Problem, State}
@@ -21,7 +20,6 @@ module _ {R Q : Type 0} (result : R → Rule) (qs : Q → Type 0) (pairs : Q →
   pub leads_more : (s t v : Session R Q) (cs ds : List Call) → Leads result qs pairs s t cs → Leads result qs pairs t v ds → Leads result qs pairs s v (cs ++ ds)
   leads_more s t v cs ds a b = record {
     base = b.base ∙ a.base;
-    capacity = b.capacity ∙ a.capacity;
     sound = λ h. b.sound (a.sound h);
     led = λ past h.
         subst (λ past'. Led result qs pairs past' v)
@@ -33,7 +31,7 @@ module _ {R Q : Type 0} (result : R → Rule) (qs : Q → Type 0) (pairs : Q →
   followed_none s u = record {
     below = λ g lt. absurd (omega arith);
     beyond = λ g le. refl;
-    leads = record { base = refl; capacity = refl; sound = λ h. h; led = λ past h. h };
+    leads = record { base = refl; sound = λ h. h; led = λ past h. h };
   }
 
   pub followed_more : (s t v : Session R Q) (f : ℕ) (u : State) → Followed result qs pairs s t f u → Aligned result qs pairs t v f (u f) → Followed result qs pairs s v (f + 1) u
