@@ -1,4 +1,6 @@
 // The engine for C and Rust: byte slices and numbers in, a status and bytes out.
+#![tactic(auto)]
+
 mod delivering;
 mod exports;
 pub mod failure;

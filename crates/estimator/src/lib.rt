@@ -1,4 +1,6 @@
 // Estimators: how many steps a plan takes at least.
+#![tactic(auto)]
+
 pub mod blind;
 pub mod estimator;
 pub mod keeping;

@@ -1,9 +1,9 @@
 // Figures and the numbers they stand for.
-ghost use Rattle.std.specs.Prelude.{◌≡◌, ℕ, ◌/◌, ◌≤◌, cond, Some, None as Nothing, Decides, nat_le};
+ghost use Rattle.std.specs.Prelude.{◌≡◌, ℕ, ◌/◌, ◌≤◌, cond, Some, None as Nothing, Decides, nat_eq, nat_le};
 ghost use Rattle.figure.specs.Ranks.{ceiling, rank, cut, number_of, halved};
 ghost use Rattle.std.specs.Cmp.Rules.{comparing};
 ghost use Rattle.std.proofs.Common.{rules};
-ghost use Rattle.std.specs.Cmp as Keys;
+ghost use Rattle.std.specs.Ordering.{on};
 
 use crate::cost::Cost;
 use crate::figure::Figure;
@@ -63,11 +63,14 @@ impl Figure {
 }
 
 impl PartialEq for Figure {
-    ghost equals = { λ a b r. Decides r (a ≡ b) };
+    ghost eq = { on rank nat_eq };
 
-    ghost laws = { Keys.partial_equiv_from_equiv (Prim.search (comparing, rules)) };
+    ghost laws = { Prim.search (comparing, rules) };
 
-    fn eq(&self, other: &Figure) -> bool {
+    fn eq(&self, other: &Figure) -> bool
+        ensures value { result ≡ on rank nat_eq self.now other.now }
+        ensures same { Decides result (self.now ≡ other.now) }
+    {
         match *self {
             Figure::None => match *other {
                 Figure::None => true,

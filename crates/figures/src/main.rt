@@ -1,5 +1,7 @@
 // Works a list of calls on a session: the task text comes on standard input, the calls as arguments.
 // Tells each answer, and each row of each docket, in words.
+#![tactic(auto)]
+
 mod asked;
 mod words;
 

@@ -1,1 +1,2 @@
 // The theory of binary heaps: definitions in specs/, lemmas in proofs/.
+#![tactic(auto)]

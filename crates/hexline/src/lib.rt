@@ -1,3 +1,5 @@
 // Reading a text line by line: each line's digits as a part of the text, or the line's first fault.
+#![tactic(auto)]
+
 pub mod line;
 pub mod reader;

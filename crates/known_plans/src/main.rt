@@ -1,4 +1,6 @@
 // Plans the tasks of files and rehearses the plans, to be held against lengths that are known from elsewhere.
+#![tactic(auto)]
+
 use anyhow::anyhow;
 use planning::planned::Planned;
 use planning::planning::plan;

@@ -1,4 +1,6 @@
 // The subject: definitions in specs/, theorems in proofs/, each theorem named by a function's contract.
+#![tactic(auto)]
+
 pub mod figures;
 
 ghost use Rattle.model.specs.Examples.{Worked};

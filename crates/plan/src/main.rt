@@ -1,4 +1,6 @@
 // Reads a task text from standard input and searches a shortest plan.
+#![tactic(auto)]
+
 mod answer;
 mod hex;
 mod planning;

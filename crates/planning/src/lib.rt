@@ -1,4 +1,6 @@
 // Planning: both goal figures of a task's start, and a shortest plan.
+#![tactic(auto)]
+
 mod asking;
 mod estimating;
 mod lending;

@@ -1,4 +1,6 @@
 // Ordered keys, and queues of items under keys.
+#![tactic(auto)]
+
 pub mod drain;
 pub mod key;
 pub mod queue;

@@ -1,5 +1,7 @@
 // Times n puts, n re-keys and n takes on one of the queues: queue_bench heap|table N.
 // With no arguments both queues work 100 items and are compared.
+#![tactic(auto)]
+
 use heap::heap::HeapQueue;
 use queue::key::Pair;
 use queue::queue::Queue;

@@ -1,4 +1,6 @@
 // Both queues worked through the same scripts of calls beside a plain list.
+#![tactic(auto)]
+
 #[cfg(test)]
 mod model;
 #[cfg(test)]

@@ -1,5 +1,7 @@
 // Rehearses plans: the task text comes on standard input, the steps as arguments, several lists of them parted by "/".
 // Tells each verdict in words, or what is wrong with the text. Either way the question is answered, and the status is 0.
+#![tactic(auto)]
+
 mod words;
 
 use anyhow::anyhow;

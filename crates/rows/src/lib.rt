@@ -1,4 +1,6 @@
 // The rows of a search, and a look-up of states among them.
+#![tactic(auto)]
+
 mod branch;
 pub mod lookup;
 pub mod making;

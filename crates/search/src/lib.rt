@@ -1,4 +1,6 @@
 // Best-first search for a shortest plan, over any estimator and any queue keyed by pairs.
+#![tactic(auto)]
+
 mod open;
 mod queueing;
 mod run;

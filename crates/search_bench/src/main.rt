@@ -2,6 +2,8 @@
 // ESTIMATOR is blind, session, or keeping (over the larger of a session and blind).
 // Prints nanoseconds, how the search ended, the plan's length and the rows used.
 // With no arguments the three estimators search with 1,024 rows and are compared.
+#![tactic(auto)]
+
 use anyhow::anyhow;
 use estimator::blind::Blind;
 use estimator::estimator::Estimator;

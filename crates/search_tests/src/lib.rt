@@ -1,4 +1,6 @@
 // The search run on small tasks with known shortest plans.
+#![tactic(auto)]
+
 mod misleading;
 mod tasks;
 #[cfg(test)]

@@ -1,4 +1,6 @@
 // The theory of best-first search: definitions in specs/, theorems in proofs/, each named by a function's contract.
+#![tactic(auto)]
+
 ghost use Rattle.search_theory.specs.Frontiers.{Frontier, NoneLeft, Taken, Found, Reached, Room};
 ghost use Rattle.search_theory.specs.Measure.{FallsTaken, FallsBetter, FallsNew};
 ghost use Rattle.search_theory.specs.Turns.{Starts, Begins, NotTaken, NoBetter, Better, New, Ends};

@@ -1,4 +1,6 @@
 // Sessions: the figures of a task's items, kept up to date as facts come and go.
+#![tactic(auto)]
+
 pub mod call;
 pub mod calls;
 pub mod fault;

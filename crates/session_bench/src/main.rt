@@ -2,6 +2,8 @@
 // WAY is kept (one session settles after each change), fresh (a session is opened for each) or solve (the table from nothing);
 // RULE is additive or max. Prints nanoseconds, docket rows in all, and a sum over the goal figures.
 // With no arguments the three ways make 50 changes and are compared.
+#![tactic(auto)]
+
 mod flips;
 mod ways;
 

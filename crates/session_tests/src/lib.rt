@@ -1,4 +1,6 @@
 // Tests of sessions: both rules, both queues, against tables worked out by a plain loop.
+#![tactic(auto)]
+
 #[cfg(test)]
 mod drive;
 #[cfg(test)]

@@ -1,4 +1,6 @@
 // The table of figures, worked out from nothing, and the goal figure.
+#![tactic(auto)]
+
 pub mod goal;
 mod side;
 mod sweep;

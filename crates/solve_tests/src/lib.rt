@@ -1,4 +1,6 @@
 // Tests of the table worked out from nothing.
+#![tactic(auto)]
+
 #[cfg(test)]
 mod made;
 #[cfg(test)]

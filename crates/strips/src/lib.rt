@@ -1,4 +1,6 @@
 // Tasks and states.
+#![tactic(auto)]
+
 pub mod action;
 pub mod actions;
 mod bits;

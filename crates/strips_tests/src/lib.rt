@@ -1,4 +1,6 @@
 // Tests of tasks, states and rehearsals, at their limits.
+#![tactic(auto)]
+
 #[cfg(test)]
 mod limits;
 #[cfg(test)]

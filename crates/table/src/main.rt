@@ -1,4 +1,6 @@
 // Reads a task text from standard input and prints its table of figures under both cost rules.
+#![tactic(auto)]
+
 mod column;
 mod failure;
 

@@ -1,4 +1,6 @@
 // Tests of task texts: damaged ones, ones at the limits, and loads.
+#![tactic(auto)]
+
 #[cfg(test)]
 mod digits;
 #[cfg(test)]

@@ -1,5 +1,7 @@
 // Reads the task text on standard input many times and tells how long that took: text_bench TIMES.
 // With no argument the text is read once, and the size of its task is told.
+#![tactic(auto)]
+
 use anyhow::anyhow;
 use std::env;
 use std::io::Read;

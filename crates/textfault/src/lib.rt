@@ -1,3 +1,5 @@
 // The faults of a task text, in layers.
+#![tactic(auto)]
+
 pub mod fault;
 pub mod shown;

@@ -1,4 +1,6 @@
 // The task text: its definitions in specs/, its theorems in proofs/, each theorem named by a function's contract.
+#![tactic(auto)]
+
 pub mod due;
 
 ghost use Rattle.textspec.specs.Texts.{OneProblem, OneFault, NotBoth, EachAccepted, StatedOrFaulty};

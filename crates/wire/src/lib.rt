@@ -1,4 +1,6 @@
 // Calls, answers and search results in bytes.
+#![tactic(auto)]
+
 pub mod answers;
 pub mod calls;
 pub mod fault;

@@ -4,8 +4,8 @@ use Rattle.figure.specs.Ranks.{rank}
 use Rattle.figure.proofs.Same.{same_rank}
 use Rattle.figure.proofs.values.FigurePartialEq.eq.Goals as goal
 
-pub returns-in-Number-other-2 : goal.returns-in-Number-other-2
-returns-in-Number-other-2 c =
+pub returns-in-Number-other-2-clause-same : goal.returns-in-Number-other-2-clause-same
+returns-in-Number-other-2-clause-same c =
     let is = ap rank c.in-Number.is in
     let other = ap rank c.in-Number-other-2.is in
     (λ e. same_rank _ _ (is ∙ eqb-true _ _ e ∙ sym other), λ e. eq-eqb _ _ (sym is ∙ ap rank e ∙ other))
