@@ -25,7 +25,7 @@ fn answer_by<R: CostRule + Drop, Q: Queue<Key = Figure> + Drop>(
     rule: R,
     calls: &[Call],
 ) -> Result<Vec<Answer>, AllocError>
-    ensures { IfOk result (λ v. Rights (problem task) (R.CostRule.result rule) (fresh (problem task)) (map call_of calls.now) (map reply_of v.items)) }
+    ensures { IfOk result (λ v. Rights (problem task) (R.CostRule.rule rule) (fresh (problem task)) (map call_of calls.now) (map reply_of v.items)) }
 {
     let queue = Q::new(heap, task.item_count())?;
     match Session::open_and_work(heap, task, rule, queue, calls) {

@@ -40,8 +40,8 @@ pub fn work_and_search<R: CostRule, Q: Queue<Key = Figure>, E: Estimator, P: Que
     rows: &mut [Row],
     steps: &mut [u16],
 ) -> Result<Worked<R, Q>, Unopened<R, Q>>
-    ensures law { MatchResult result (λ w. WholeLaw (problem task) (R.CostRule.result rule) (map call_of calls.now) (map reply_of w.answers.items) (problem sought.now) (standing start.now) (E.Estimator.value est.old) (E.Estimator.suits est.old (problem sought.now)) (E.Estimator.agrees est.old) (Q.Queue.sound queue) (P.Queue.sound frontier.old) (memory rows.old steps.old (P.Queue.pairs frontier.old)) (memory rows.new steps.new (P.Queue.pairs frontier.new)) w.outcome) (Refusing Q.Queue.pairs task rule queue) }
-    ensures led { Q.Queue.sound queue → IfOk result (λ w. Led R.CostRule.result Q.Queue.sound Q.Queue.pairs (ended (problem task) (fresh (problem task)) (map call_of calls.now)) w.session) }
+    ensures law { MatchResult result (λ w. WholeLaw (problem task) (R.CostRule.rule rule) (map call_of calls.now) (map reply_of w.answers.items) (problem sought.now) (standing start.now) (E.Estimator.value est.old) (E.Estimator.suits est.old (problem sought.now)) (E.Estimator.agrees est.old) (Q.Queue.sound queue) (P.Queue.sound frontier.old) (memory rows.old steps.old (P.Queue.pairs frontier.old)) (memory rows.new steps.new (P.Queue.pairs frontier.new)) w.outcome) (Refusing Q.Queue.pairs task rule queue) }
+    ensures led { Q.Queue.sound queue → IfOk result (λ w. Led R.CostRule.rule Q.Queue.sound Q.Queue.pairs (ended (problem task) (fresh (problem task)) (map call_of calls.now)) w.session) }
     ensures estimator { OnOk result (Leaves E.Estimator.suits E.Estimator.value E.Estimator.agrees est.old est.new) }
     ensures untouched { OnErr result ((est.new ≡ est.old) × (frontier.new ≡ frontier.old) × (rows.new ≡ rows.old) × (steps.new ≡ steps.old)) }
 {

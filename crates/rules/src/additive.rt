@@ -26,7 +26,7 @@ fn plus(left: Figure, right: Figure) -> Figure
 }
 
 impl CostRule for AdditiveRule {
-    ghost result = { λ _. additive_rule };
+    ghost rule = { λ _. additive_rule };
 
     ghost lawful = { λ s. additive_laws };
 

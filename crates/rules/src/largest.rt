@@ -20,7 +20,7 @@ fn larger(left: Figure, right: Figure) -> Figure
 }
 
 impl CostRule for MaxRule {
-    ghost result = { λ _. max_rule };
+    ghost rule = { λ _. max_rule };
 
     ghost lawful = { λ s. max_laws };
 

@@ -27,7 +27,7 @@ impl<R: CostRule, Q: Queue<Key = Figure>> Session<R, Q> {
     // Puts another state in place, which differs at one fact alone, and makes that fact right again.
     fn restand(&mut self, state: State, fact: u8)
         ensures moves { Moved self.old self.new state }
-        ensures keeps { ((f : ℕ) → (f ≢ fact) → standing state f ≡ standing self.old.state f) → Sound R.CostRule.result Q.Queue.sound Q.Queue.pairs self.old → Sound R.CostRule.result Q.Queue.sound Q.Queue.pairs self.new }
+        ensures keeps { ((f : ℕ) → (f ≢ fact) → standing state f ≡ standing self.old.state f) → Sound R.CostRule.rule Q.Queue.sound Q.Queue.pairs self.old → Sound R.CostRule.rule Q.Queue.sound Q.Queue.pairs self.new }
     {
         self.state = state;
         self.settled = false;
@@ -38,8 +38,8 @@ impl<R: CostRule, Q: Queue<Key = Figure>> Session<R, Q> {
     // Makes a fact stand; tells whether it had not stood. Only then is the session unsettled.
     pub fn enter(&mut self, fact: u8) -> Result<bool, SessionFault>
         ensures answer { Entering self.old self.new fact result }
-        ensures keeps { Sound R.CostRule.result Q.Queue.sound Q.Queue.pairs self.old → Sound R.CostRule.result Q.Queue.sound Q.Queue.pairs self.new }
-        ensures law { Goes R.CostRule.result Q.Queue.sound Q.Queue.pairs self.old (to-enter fact) (told_of result) self.new }
+        ensures keeps { Sound R.CostRule.rule Q.Queue.sound Q.Queue.pairs self.old → Sound R.CostRule.rule Q.Queue.sound Q.Queue.pairs self.new }
+        ensures law { Goes R.CostRule.rule Q.Queue.sound Q.Queue.pairs self.old (to-enter fact) (told_of result) self.new }
     {
         if fact >= self.base.task.facts() {
             return Err(SessionFault::Unknown);
@@ -55,8 +55,8 @@ impl<R: CostRule, Q: Queue<Key = Figure>> Session<R, Q> {
     // Makes a fact fall; tells whether it had stood. Only then is the session unsettled.
     pub fn strike(&mut self, fact: u8) -> Result<bool, SessionFault>
         ensures answer { Striking self.old self.new fact result }
-        ensures keeps { Sound R.CostRule.result Q.Queue.sound Q.Queue.pairs self.old → Sound R.CostRule.result Q.Queue.sound Q.Queue.pairs self.new }
-        ensures law { Goes R.CostRule.result Q.Queue.sound Q.Queue.pairs self.old (to-strike fact) (told_of result) self.new }
+        ensures keeps { Sound R.CostRule.rule Q.Queue.sound Q.Queue.pairs self.old → Sound R.CostRule.rule Q.Queue.sound Q.Queue.pairs self.new }
+        ensures law { Goes R.CostRule.rule Q.Queue.sound Q.Queue.pairs self.old (to-strike fact) (told_of result) self.new }
     {
         if fact >= self.base.task.facts() {
             return Err(SessionFault::Unknown);
@@ -72,9 +72,9 @@ impl<R: CostRule, Q: Queue<Key = Figure>> Session<R, Q> {
     // Moves the held figures to those of the facts that stand, writes a row for each change, and answers how many.
     pub fn settle(&mut self, docket: &mut [DocketRow]) -> Result<usize, SessionFault>
         ensures answer { Settles self.old self.new docket.old docket.new result }
-        ensures keeps { Sound R.CostRule.result Q.Queue.sound Q.Queue.pairs self.old → Sound R.CostRule.result Q.Queue.sound Q.Queue.pairs self.new }
-        ensures figures { Sound R.CostRule.result Q.Queue.sound Q.Queue.pairs self.old → Docketing R.CostRule.result self.old self.new docket.new result }
-        ensures law { Goes R.CostRule.result Q.Queue.sound Q.Queue.pairs self.old (to-settle (length docket.old)) (wrote_of docket.new result) self.new }
+        ensures keeps { Sound R.CostRule.rule Q.Queue.sound Q.Queue.pairs self.old → Sound R.CostRule.rule Q.Queue.sound Q.Queue.pairs self.new }
+        ensures figures { Sound R.CostRule.rule Q.Queue.sound Q.Queue.pairs self.old → Docketing R.CostRule.rule self.old self.new docket.new result }
+        ensures law { Goes R.CostRule.rule Q.Queue.sound Q.Queue.pairs self.old (to-settle (length docket.old)) (wrote_of docket.new result) self.new }
     {
         if docket.len() < rows_needed(&self.base.task) {
             return Err(SessionFault::DocketShort);
@@ -87,7 +87,7 @@ impl<R: CostRule, Q: Queue<Key = Figure>> Session<R, Q> {
     // The figure of an item.
     pub fn figure(&self, item: usize) -> Result<Figure, SessionFault>
         ensures answer { result ≡ figure_answer self.now item }
-        ensures law { Goes R.CostRule.result Q.Queue.sound Q.Queue.pairs self.now (to-tell item) (shown_of result) self.now }
+        ensures law { Goes R.CostRule.rule Q.Queue.sound Q.Queue.pairs self.now (to-tell item) (shown_of result) self.now }
     {
         if item >= self.held.as_slice().len() {
             return Err(SessionFault::Unknown);
@@ -100,8 +100,8 @@ impl<R: CostRule, Q: Queue<Key = Figure>> Session<R, Q> {
 
     // Half the rule's result over the goal.
     pub fn goal_figure(&self) -> Result<Figure, SessionFault>
-        ensures answer { result ≡ goal_answer R.CostRule.result self.now }
-        ensures law { Goes R.CostRule.result Q.Queue.sound Q.Queue.pairs self.now to-tell-goal (shown_of result) self.now }
+        ensures answer { result ≡ goal_answer R.CostRule.rule self.now }
+        ensures law { Goes R.CostRule.rule Q.Queue.sound Q.Queue.pairs self.now to-tell-goal (shown_of result) self.now }
     {
         if !self.settled {
             return Err(SessionFault::Unsettled);

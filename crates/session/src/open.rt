@@ -37,7 +37,7 @@ impl<R: CostRule, Q: Queue<Key = Figure>> Session<R, Q> {
         queue: Q,
     ) -> Result<Session<R, Q>, Unopened<R, Q>>
         ensures opens { MatchResult result (Opened Q.Queue.pairs task rule queue) (Refusing Q.Queue.pairs task rule queue) }
-        ensures led { Q.Queue.sound queue → IfOk result (Led R.CostRule.result Q.Queue.sound Q.Queue.pairs (fresh (problem task))) }
+        ensures led { Q.Queue.sound queue → IfOk result (Led R.CostRule.rule Q.Queue.sound Q.Queue.pairs (fresh (problem task))) }
     {
         if !is_ready(&task, &queue) {
             return Err(Unopened {
@@ -62,7 +62,7 @@ impl<R: CostRule, Q: Queue<Key = Figure>> Session<R, Q> {
     fn begin(heap: Global, base: Base<R>, queue: Q) -> Result<Session<R, Q>, Unopened<R, Q>>
         requires { Beginning Q.Queue.pairs base queue }
         ensures opens { MatchResult result (Opened Q.Queue.pairs base.task base.rule queue) (Refusing Q.Queue.pairs base.task base.rule queue) }
-        ensures led { Q.Queue.sound queue → IfOk result (Led R.CostRule.result Q.Queue.sound Q.Queue.pairs (fresh (problem base.task))) }
+        ensures led { Q.Queue.sound queue → IfOk result (Led R.CostRule.rule Q.Queue.sound Q.Queue.pairs (fresh (problem base.task))) }
     {
         let state = base.task.start_state();
         match HeldFigures::begin(heap, &base, &state, queue) {

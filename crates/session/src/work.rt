@@ -46,8 +46,8 @@ impl<R: CostRule, Q: Queue<Key = Figure>> Session<R, Q> {
     // Settles as if on so many rows; of the docket no more than two rows for each item are ever written.
     fn settle_on(&mut self, docket: Vec<DocketRow>, rows: usize) -> Answer
         ensures base { self.new.base ≡ self.old.base }
-        ensures keeps { Sound R.CostRule.result Q.Queue.sound Q.Queue.pairs self.old → Sound R.CostRule.result Q.Queue.sound Q.Queue.pairs self.new }
-        ensures law { vec_len docket ≡ 2 * items (task_of self.old) → Goes R.CostRule.result Q.Queue.sound Q.Queue.pairs self.old (to-settle rows) (reply_of result) self.new }
+        ensures keeps { Sound R.CostRule.rule Q.Queue.sound Q.Queue.pairs self.old → Sound R.CostRule.rule Q.Queue.sound Q.Queue.pairs self.new }
+        ensures law { vec_len docket ≡ 2 * items (task_of self.old) → Goes R.CostRule.rule Q.Queue.sound Q.Queue.pairs self.old (to-settle rows) (reply_of result) self.new }
     {
         let mut lent = docket;
         lent.truncate(rows);
@@ -63,8 +63,8 @@ impl<R: CostRule, Q: Queue<Key = Figure>> Session<R, Q> {
     // Works one call; a settle takes one of the dockets.
     fn ask(&mut self, call: Call, dockets: &mut Vec<Vec<DocketRow>>) -> Answer
         ensures base { self.new.base ≡ self.old.base }
-        ensures keeps { Sound R.CostRule.result Q.Queue.sound Q.Queue.pairs self.old → Sound R.CostRule.result Q.Queue.sound Q.Queue.pairs self.new }
-        ensures law { (n : ℕ) → Stocked (weight call + n) (2 * items (task_of self.old)) dockets.old.items → Goes R.CostRule.result Q.Queue.sound Q.Queue.pairs self.old (call_of call) (reply_of result) self.new × Stocked n (2 * items (task_of self.old)) dockets.new.items }
+        ensures keeps { Sound R.CostRule.rule Q.Queue.sound Q.Queue.pairs self.old → Sound R.CostRule.rule Q.Queue.sound Q.Queue.pairs self.new }
+        ensures law { (n : ℕ) → Stocked (weight call + n) (2 * items (task_of self.old)) dockets.old.items → Goes R.CostRule.rule Q.Queue.sound Q.Queue.pairs self.old (call_of call) (reply_of result) self.new × Stocked n (2 * items (task_of self.old)) dockets.new.items }
     {
         match call {
             Call::Enter(fact) => told(self.enter(fact)),
@@ -82,8 +82,8 @@ impl<R: CostRule, Q: Queue<Key = Figure>> Session<R, Q> {
     fn run(&mut self, room: Room, calls: &[Call]) -> Vec<Answer>
         requires { Roomy (2 * items (task_of self.old)) calls.now room }
         ensures base { self.new.base ≡ self.old.base }
-        ensures keeps { Sound R.CostRule.result Q.Queue.sound Q.Queue.pairs self.old → Sound R.CostRule.result Q.Queue.sound Q.Queue.pairs self.new }
-        ensures law { Working R.CostRule.result Q.Queue.sound Q.Queue.pairs self.old calls.now result.items self.new }
+        ensures keeps { Sound R.CostRule.rule Q.Queue.sound Q.Queue.pairs self.old → Sound R.CostRule.rule Q.Queue.sound Q.Queue.pairs self.new }
+        ensures law { Working R.CostRule.rule Q.Queue.sound Q.Queue.pairs self.old calls.now result.items self.new }
     {
         let Room {
             mut answers,
@@ -99,8 +99,8 @@ impl<R: CostRule, Q: Queue<Key = Figure>> Session<R, Q> {
     // Works a list of calls: every answer is right for the calls before it. Where memory is wanting no call is worked.
     pub fn work(&mut self, heap: Global, calls: &[Call]) -> Result<Vec<Answer>, AllocError>
         ensures refused { MatchResult result (λ _. self.new.base ≡ self.old.base) (λ _. self.new ≡ self.old) }
-        ensures keeps { Sound R.CostRule.result Q.Queue.sound Q.Queue.pairs self.old → Sound R.CostRule.result Q.Queue.sound Q.Queue.pairs self.new }
-        ensures law { IfOk result (λ v. Working R.CostRule.result Q.Queue.sound Q.Queue.pairs self.old calls.now v.items self.new) }
+        ensures keeps { Sound R.CostRule.rule Q.Queue.sound Q.Queue.pairs self.old → Sound R.CostRule.rule Q.Queue.sound Q.Queue.pairs self.new }
+        ensures law { IfOk result (λ v. Working R.CostRule.rule Q.Queue.sound Q.Queue.pairs self.old calls.now v.items self.new) }
     {
         let room = reserve(heap, rows_needed(&self.base.task), calls)?;
         Ok(self.run(room, calls))
@@ -115,8 +115,8 @@ impl<R: CostRule, Q: Queue<Key = Figure>> Session<R, Q> {
         calls: &[Call],
     ) -> Result<(Session<R, Q>, Vec<Answer>), Unopened<R, Q>>
         ensures opens { MatchResult result (λ w. On Q.Queue.pairs task rule queue w.0) (Refusing Q.Queue.pairs task rule queue) }
-        ensures law { Q.Queue.sound queue → IfOk result (λ w. Rights (problem task) (R.CostRule.result rule) (fresh (problem task)) (map call_of calls.now) (map reply_of w.1.items)) }
-        ensures led { Q.Queue.sound queue → IfOk result (λ w. Led R.CostRule.result Q.Queue.sound Q.Queue.pairs (ended (problem task) (fresh (problem task)) (map call_of calls.now)) w.0) }
+        ensures law { Q.Queue.sound queue → IfOk result (λ w. Rights (problem task) (R.CostRule.rule rule) (fresh (problem task)) (map call_of calls.now) (map reply_of w.1.items)) }
+        ensures led { Q.Queue.sound queue → IfOk result (λ w. Led R.CostRule.rule Q.Queue.sound Q.Queue.pairs (ended (problem task) (fresh (problem task)) (map call_of calls.now)) w.0) }
     {
         if !is_ready(&task, &queue) {
             return Err(Unopened {

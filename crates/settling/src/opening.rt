@@ -38,7 +38,7 @@ impl<Q: Queue<Key = Figure>> HeldFigures<Q> {
     fn refresh_every<R: CostRule>(&mut self, base: &Base<R>, state: &State)
         ensures keeps { Q.Queue.sound self.old.queue → Q.Queue.sound self.new.queue }
         ensures held { self.new.figures ≡ self.old.figures }
-        ensures after { Refreshes R.CostRule.result Q.Queue.pairs base.now state.now self.old self.new (λ _. true) }
+        ensures after { Refreshes R.CostRule.rule Q.Queue.pairs base.now state.now self.old self.new (λ _. true) }
     {
         for item in 0..self.figures.len() {
             self.refresh(base, state, item);
@@ -54,7 +54,7 @@ impl<Q: Queue<Key = Figure>> HeldFigures<Q> {
     ) -> Result<HeldFigures<Q>, Q>
         ensures held { MatchResult result (λ h. h.figures.items ≡ replicate (items (problem base.now.task)) None) (λ q. q ≡ queue) }
         ensures keeps { Q.Queue.sound queue → IfOk result (λ h. Q.Queue.sound h.queue) }
-        ensures after { Linked (problem base.now.task) base.now.links → vacant (Q.Queue.pairs queue) ≡ true → items (problem base.now.task) ≤ length (Q.Queue.pairs queue) → IfOk result (Keeping R.CostRule.result Q.Queue.pairs base.now state.now) }
+        ensures after { Linked (problem base.now.task) base.now.links → vacant (Q.Queue.pairs queue) ≡ true → items (problem base.now.task) ≤ length (Q.Queue.pairs queue) → IfOk result (Keeping R.CostRule.rule Q.Queue.pairs base.now state.now) }
     {
         match two_lists(heap, base.task.item_count()) {
             Ok(lists) => {

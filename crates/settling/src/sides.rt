@@ -69,7 +69,7 @@ pub(crate) fn side_of<R: CostRule>(
     figures: &[Figure],
     item: usize,
 ) -> Figure
-    ensures { Linked (problem base.now.task) base.now.links → rank result ≡ equations_of R.CostRule.result base.now state.now (table figures.now) item }
+    ensures { Linked (problem base.now.task) base.now.links → rank result ≡ equations_of R.CostRule.rule base.now state.now (table figures.now) item }
 {
     let facts = usize::from(base.task.facts());
     if item < facts {

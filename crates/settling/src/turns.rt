@@ -31,7 +31,7 @@ impl<Q: Queue<Key = Figure>> HeldFigures<Q> {
     pub fn refresh<R: CostRule>(&mut self, base: &Base<R>, state: &State, item: usize)
         ensures keeps { Q.Queue.sound self.old.queue → Q.Queue.sound self.new.queue }
         ensures held { self.new.figures ≡ self.old.figures }
-        ensures after { Refreshed R.CostRule.result Q.Queue.pairs base.now state.now self.old self.new item }
+        ensures after { Refreshed R.CostRule.rule Q.Queue.pairs base.now state.now self.old self.new item }
     {
         if item < self.figures.len() {
             let side = side_of(base, state, &self.figures, item);
@@ -44,7 +44,7 @@ impl<Q: Queue<Key = Figure>> HeldFigures<Q> {
     fn refresh_all<R: CostRule>(&mut self, base: &Base<R>, state: &State, items: &[usize])
         ensures keeps { Q.Queue.sound self.old.queue → Q.Queue.sound self.new.queue }
         ensures held { self.new.figures ≡ self.old.figures }
-        ensures after { Refreshes R.CostRule.result Q.Queue.pairs base.now state.now self.old self.new (names items.now) }
+        ensures after { Refreshes R.CostRule.rule Q.Queue.pairs base.now state.now self.old self.new (names items.now) }
     {
         for item in items {
             self.refresh(base, state, *item);
@@ -55,7 +55,7 @@ impl<Q: Queue<Key = Figure>> HeldFigures<Q> {
     fn turn<R: CostRule>(&mut self, base: &Base<R>, state: &State) -> Option<DocketRow>
         ensures keeps { Q.Queue.sound self.old.queue → Q.Queue.sound self.new.queue }
         ensures long { vec_len self.new.figures ≡ vec_len self.old.figures }
-        ensures after { Q.Queue.sound self.old.queue → Turned R.CostRule.result Q.Queue.pairs base.now state.now self.old self.new result }
+        ensures after { Q.Queue.sound self.old.queue → Turned R.CostRule.rule Q.Queue.pairs base.now state.now self.old self.new result }
     {
         match self.queue.take() {
             Some(found) => {
@@ -90,7 +90,7 @@ impl<Q: Queue<Key = Figure>> HeldFigures<Q> {
         ensures long { vec_len self.new.figures ≡ vec_len self.old.figures }
         ensures within { result ≤ length docket.old }
         ensures later { drop result docket.new ≡ drop result docket.old }
-        ensures after { Q.Queue.sound self.old.queue → Settled R.CostRule.result Q.Queue.pairs base.now state.now self.old self.new docket.old docket.new result }
+        ensures after { Q.Queue.sound self.old.queue → Settled R.CostRule.rule Q.Queue.pairs base.now state.now self.old self.new docket.old docket.new result }
     {
         let mut n = 0;
         while n < docket.len() {

@@ -10,7 +10,7 @@ use strips::task::Task;
 
 // Half the rule's result over the figures of the goal; half of none is none.
 pub fn goal_figure<R: CostRule>(task: &Task, rule: &R, figures: &[Figure]) -> Figure
-    ensures { rank result ≡ goal_figure (R.CostRule.result rule.now) (problem task.now) (table figures.now) }
+    ensures { rank result ≡ goal_figure (R.CostRule.rule rule.now) (problem task.now) (table figures.now) }
 {
     rule.over(figures, task.goal()).half()
 }

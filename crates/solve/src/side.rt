@@ -68,7 +68,7 @@ fn fact_side(task: &Task, state: &State, figures: &[Figure], fact: u8) -> Figure
 }
 
 fn action_side<R: CostRule>(task: &Task, rule: &R, figures: &[Figure], number: usize) -> Figure
-    ensures { rank result ≡ (if nat_lt number (length (problem task.now).actions) then action_from (R.CostRule.result rule.now (map (table figures.now) (action (problem task.now) number).pre)) else top) }
+    ensures { rank result ≡ (if nat_lt number (length (problem task.now).actions) then action_from (R.CostRule.rule rule.now (map (table figures.now) (action (problem task.now) number).pre)) else top) }
 {
     match task.action(number) {
         Some(action) => one_more(rule.over(figures, action.preconditions())),
@@ -84,7 +84,7 @@ pub(crate) fn side_of<R: CostRule>(
     figures: &[Figure],
     item: usize,
 ) -> Figure
-    ensures { rank result ≡ equations (R.CostRule.result rule.now) (problem task.now) (standing state.now) (table figures.now) item }
+    ensures { rank result ≡ equations (R.CostRule.rule rule.now) (problem task.now) (standing state.now) (table figures.now) item }
 {
     let facts = usize::from(task.facts());
     if item < facts {

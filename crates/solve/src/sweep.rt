@@ -14,8 +14,8 @@ use strips::task::Task;
 
 // One sweep, in the order of the items. Tells whether a figure changed.
 fn sweep<R: CostRule>(task: &Task, state: &State, rule: &R, figures: &mut [Figure]) -> bool
-    requires { Falling (equations (R.CostRule.result rule.now) (problem task.now) (standing state.now)) (table figures.old) }
-    ensures { Swept (equations (R.CostRule.result rule.now) (problem task.now) (standing state.now)) (length figures.old) figures.old figures.new result }
+    requires { Falling (equations (R.CostRule.rule rule.now) (problem task.now) (standing state.now)) (table figures.old) }
+    ensures { Swept (equations (R.CostRule.rule rule.now) (problem task.now) (standing state.now)) (length figures.old) figures.old figures.new result }
 {
     let mut changed = false;
     for item in 0..figures.len() {
@@ -31,8 +31,8 @@ fn sweep<R: CostRule>(task: &Task, state: &State, rule: &R, figures: &mut [Figur
 // Sweeps until nothing changes. It ends, since figures only fall.
 pub(crate) fn sweep_all<R: CostRule>(task: &Task, state: &State, rule: &R, figures: &mut [Figure])
     requires whole { length figures.old ≡ items (problem task.now) }
-    requires falling { Falling (equations (R.CostRule.result rule.now) (problem task.now) (standing state.now)) (table figures.old) }
-    ensures { Solves (equations (R.CostRule.result rule.now) (problem task.now) (standing state.now)) (table figures.new) }
+    requires falling { Falling (equations (R.CostRule.rule rule.now) (problem task.now) (standing state.now)) (table figures.old) }
+    ensures { Solves (equations (R.CostRule.rule rule.now) (problem task.now) (standing state.now)) (table figures.new) }
 {
     while sweep(task, state, rule, figures) {}
 }

@@ -18,7 +18,7 @@ pub fn solve<R: CostRule>(
     state: &State,
     rule: &R,
 ) -> Result<Vec<Figure>, AllocError>
-    ensures { IfOk result (λ v. Solved (R.CostRule.result rule.now) (problem task.now) (standing state.now) v.items) }
+    ensures { IfOk result (λ v. Solved (R.CostRule.rule rule.now) (problem task.now) (standing state.now) v.items) }
 {
     let mut figures = vec![in heap; Figure::None; task.item_count()]?;
     sweep_all(task, state, rule, &mut figures);

@@ -18,7 +18,7 @@ pub struct Column {
 
 // The figures of the task where its start facts stand.
 pub fn column_of<R: CostRule>(heap: Global, task: &Task, rule: &R) -> Result<Column, AllocError>
-    ensures { IfOk result (λ c. WorkedOut (R.CostRule.result rule.now) (problem task.now) c) }
+    ensures { IfOk result (λ c. WorkedOut (R.CostRule.rule rule.now) (problem task.now) c) }
 {
     let figures = solve(heap, task, &task.start_state(), rule)?;
     let goal = goal_figure(task, rule, &figures);

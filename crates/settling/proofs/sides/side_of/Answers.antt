@@ -10,7 +10,7 @@ use Rattle.settling.proofs.sides.side_of.Goals as goal
 
 pub returns-then-stands : goal.returns-then-stands
 returns-then-stands g c = λ l.
-    c.of.ensures ∙ sym (at_standing (g.R.CostRule.result c.args.base.now.rule) (problem c.args.base.now.task) (standing c.args.state.now) (table c.args.figures.now) c.args.item
+    c.of.ensures ∙ sym (at_standing (g.R.CostRule.rule c.args.base.now.rule) (problem c.args.base.now.task) (standing c.args.state.now) (table c.args.figures.now) c.args.item
     (omega (arith, c.if-item-facts.true, c.from-facts.ensures, c.facts.ensures.is)) (sym c.stands.ensures ∙ c.if-stands.true))
 
 pub returns-then-item-facts : goal.returns-then-item-facts
@@ -19,13 +19,13 @@ returns-then-item-facts g c = λ l.
     let x = table c.args.figures.now in
     let low : c.args.item < p.facts = omega (arith, c.if-item-facts.true, c.from-facts.ensures, c.facts.ensures.is) in
     c.one-more.ensures ∙ ap (λ v. cut (v + 1)) (c.least-of.ensures ∙ ap (least x) (c.adders.ensures ∙ l.adders c.args.item low))
-    ∙ sym (at_added (g.R.CostRule.result c.args.base.now.rule) p (standing c.args.state.now) x c.args.item low (sym c.stands.ensures ∙ c.if-stands.false))
+    ∙ sym (at_added (g.R.CostRule.rule c.args.base.now.rule) p (standing c.args.state.now) x c.args.item low (sym c.stands.ensures ∙ c.if-stands.false))
 
 pub returns-in-Some : goal.returns-in-Some
 returns-in-Some g c = λ l.
     let p = problem c.args.base.now.task in
     let x = table c.args.figures.now in
-    let rule = g.R.CostRule.result c.args.base.now.rule in
+    let rule = g.R.CostRule.rule c.args.base.now.rule in
     let q = c.args.item in
     let less : q - c.from-facts.result ≡ q - p.facts = ap (λ n. q - n) (c.from-facts.ensures ∙ c.facts.ensures.is) in
     let high : p.facts ≤ q = omega (arith, c.if-item-facts.false, c.from-facts.ensures, c.facts.ensures.is) in
@@ -39,5 +39,5 @@ returns-in-None g c = λ l.
     let p = problem c.args.base.now.task in
     let q = c.args.item in
     let less : q - c.from-facts.result ≡ q - p.facts = ap (λ n. q - n) (c.from-facts.ensures ∙ c.facts.ensures.is) in
-    sym (at_past (g.R.CostRule.result c.args.base.now.rule) p (standing c.args.state.now) (table c.args.figures.now) q
+    sym (at_past (g.R.CostRule.rule c.args.base.now.rule) p (standing c.args.state.now) (table c.args.figures.now) q
     (omega (arith, nth_none p.actions (q - c.from-facts.result) c.in-None.ensures, less, c.if-item-facts.false, c.from-facts.ensures, c.facts.ensures.is)))

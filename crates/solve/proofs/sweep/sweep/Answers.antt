@@ -12,7 +12,7 @@ use Rattle.solve.proofs.sweep.sweep.Goals.{then-ne, else-ne}
 
 pub loop-item-preserved : goal.loop-item-preserved
 loop-item-preserved g c =
-    let rule = g.R.CostRule.result c.args.rule.now in let p = problem c.args.task.now in let s = standing c.args.state.now in
+    let rule = g.R.CostRule.rule c.args.rule.now in let p = problem c.args.task.now in let s = standing c.args.state.now in
     let F = equations rule p s in
     let i = c.loop-item.item in let before = c.args.figures.now in let held = c.loop-item.figures in
     let f = c.side-of-side.result in let same = c.ne.ensures.0 in

@@ -6,4 +6,4 @@ use Rattle.solve.proofs.sweep.sweep.Given as goal
 
 abbrev pub invariant-loop-item : goal.invariant-loop-item
 invariant-loop-item g l =
-    Swept (equations (g.R.CostRule.result l.rule) (problem l.task) (standing l.state)) l.item l.initial.figures l.figures l.changed
+    Swept (equations (g.R.CostRule.rule l.rule) (problem l.task) (standing l.state)) l.item l.initial.figures l.figures l.changed

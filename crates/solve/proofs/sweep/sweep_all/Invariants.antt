@@ -8,7 +8,7 @@ use Rattle.solve.specs.Tables.{Falling}
 use Rattle.solve.proofs.sweep.sweep_all.Given as goal
 
 abbrev pub invariant-loop : goal.invariant-loop
-invariant-loop g l = Falling (equations (g.R.CostRule.result l.rule) (problem l.task) (standing l.state)) (table l.figures)
+invariant-loop g l = Falling (equations (g.R.CostRule.rule l.rule) (problem l.task) (standing l.state)) (table l.figures)
 
 abbrev pub decreases-loop : goal.decreases-loop
 decreases-loop g l = total (length l.initial.figures) (table l.figures)

@@ -13,7 +13,7 @@ use Rattle.solve.proofs.table.solve.Goals as goal
 
 pub sweep-all-requires : goal.sweep-all-requires
 sweep-all-requires g c =
-    let rule = g.R.CostRule.result c.args.rule.now in let p = problem c.args.task.now in let s = standing c.args.state.now in
+    let rule = g.R.CostRule.rule c.args.rule.now in let p = problem c.args.task.now in let s = standing c.args.state.now in
     let F = equations rule p s in
     let all : c.deref-mut.result.now ≡ replicate c.item-count.result None =
     c.deref-mut.ensures.value ∙ c.in-ok-figures.ensures.items-if-clones-equal (λ y h. h) in
@@ -24,7 +24,7 @@ sweep-all-requires g c =
 
 pub returns : goal.returns
 returns g c =
-    let rule = g.R.CostRule.result c.args.rule.now in let p = problem c.args.task.now in let s = standing c.args.state.now in
+    let rule = g.R.CostRule.rule c.args.rule.now in let p = problem c.args.task.now in let s = standing c.args.state.now in
     let v = c.in-ok-figures.figures in let ws = c.sweep-all.new.figures in
     let long : length ws ≡ vec_len v = c.sweep-all.auto.figures ∙ c.deref-mut.ensures.len in
     subst (λ l. Solved rule p s l) (sym (with_items_is v ws long))

@@ -11,7 +11,7 @@ pub returns-then-fact-facts : goal.returns-then-fact-facts
 returns-then-fact-facts g c =
     let s = c.args.self.now in
     let a : Entering s s c.args.fact (Err Unknown) = (omega (arith, c.if-fact-facts.true, c.facts.ensures.is), refl, refl) in
-    record { answer = a; keeps = λ sd. sd; law = enter_goes g.R.CostRule.result g.Q.Queue.sound g.Q.Queue.pairs s s c.args.fact (λ sd. sd) (Err Unknown) a }
+    record { answer = a; keeps = λ sd. sd; law = enter_goes g.R.CostRule.rule g.Q.Queue.sound g.Q.Queue.pairs s s c.args.fact (λ sd. sd) (Err Unknown) a }
 
 pub returns-then-insert : goal.returns-then-insert
 returns-then-insert g c =
@@ -20,16 +20,16 @@ returns-then-insert g c =
     let f = c.args.fact in
     let m = c.restand.ensures.moves in
     let after = c.insert.ensures.after in
-    let keeps : Sound g.R.CostRule.result g.Q.Queue.sound g.Q.Queue.pairs s → Sound g.R.CostRule.result g.Q.Queue.sound g.Q.Queue.pairs t =
+    let keeps : Sound g.R.CostRule.rule g.Q.Queue.sound g.Q.Queue.pairs s → Sound g.R.CostRule.rule g.Q.Queue.sound g.Q.Queue.pairs t =
     c.restand.ensures.keeps (λ r o. ap (λ z. z r) after ∙ entered_other f (standing s.state) r o) in
     let was : standing s.state f ≡ false = not_true _ (sym c.insert.ensures.told ∙ c.if-insert.true) in
     let a : Entering s t f (Ok true) =
     (omega (arith, c.if-fact-facts.false, c.facts.ensures.is), was, record { base = m.base; figures = m.figures; facts = ap standing m.state ∙ after; settled = m.settled }) in
-    record { answer = a; keeps = keeps; law = enter_goes g.R.CostRule.result g.Q.Queue.sound g.Q.Queue.pairs s t f keeps (Ok true) a }
+    record { answer = a; keeps = keeps; law = enter_goes g.R.CostRule.rule g.Q.Queue.sound g.Q.Queue.pairs s t f keeps (Ok true) a }
 
 pub returns : goal.returns
 returns g c =
     let s = c.args.self.now in
     let was : standing s.state c.args.fact ≡ true = not_false _ (sym c.insert.ensures.told ∙ c.if-insert.false) in
     let a : Entering s s c.args.fact (Ok false) = (omega (arith, c.if-fact-facts.false, c.facts.ensures.is), was, refl) in
-    record { answer = a; keeps = λ sd. sd; law = enter_goes g.R.CostRule.result g.Q.Queue.sound g.Q.Queue.pairs s s c.args.fact (λ sd. sd) (Ok false) a }
+    record { answer = a; keeps = λ sd. sd; law = enter_goes g.R.CostRule.rule g.Q.Queue.sound g.Q.Queue.pairs s s c.args.fact (λ sd. sd) (Ok false) a }

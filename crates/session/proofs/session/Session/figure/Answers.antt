@@ -15,14 +15,14 @@ returns-then-item-as-slice g c =
     let s = c.args.self.now in
     let b : ltb c.args.item (items (task_of s)) ≡ false = le-ltb c.args.item (items (task_of s)) (omega (arith, c.if-item-as-slice.true, ap length c.as-slice.ensures, s.long, s.held.figures.ok.0)) in
     let a : Err Unknown ≡ figure_answer s c.args.item = sym (cond-false _ _ _ b) in
-    record { answer = a; law = figure_goes g.R.CostRule.result g.Q.Queue.sound g.Q.Queue.pairs s c.args.item (Err Unknown) a }
+    record { answer = a; law = figure_goes g.R.CostRule.rule g.Q.Queue.sound g.Q.Queue.pairs s c.args.item (Err Unknown) a }
 
 pub returns-then-not-self : goal.returns-then-not-self
 returns-then-not-self g c =
     let s = c.args.self.now in
     let b : ltb c.args.item (items (task_of s)) ≡ true = lt-ltb c.args.item (items (task_of s)) (omega (arith, c.if-item-as-slice.false, ap length c.as-slice.ensures, s.long, s.held.figures.ok.0)) in
     let a : Err Unsettled ≡ figure_answer s c.args.item = sym (cond-true _ _ _ b ∙ cond-false _ _ _ c.if-not-self.true) in
-    record { answer = a; law = figure_goes g.R.CostRule.result g.Q.Queue.sound g.Q.Queue.pairs s c.args.item (Err Unsettled) a }
+    record { answer = a; law = figure_goes g.R.CostRule.rule g.Q.Queue.sound g.Q.Queue.pairs s c.args.item (Err Unsettled) a }
 
 pub returns : goal.returns
 returns g c =
@@ -33,4 +33,4 @@ returns g c =
     let b : ltb i (items (task_of s)) ≡ true = lt-ltb i (items (task_of s)) (omega (arith, c.if-item-as-slice.false, ap length c.as-slice.ensures, s.long, s.held.figures.ok.0)) in
     let is : f ≡ get_or (figures_of s) i None = get_or_read c.as-slice-2.result.now i f within c.index-as-slice-item.is None ∙ ap (λ l. get_or l i None) c.as-slice-2.ensures in
     let a : Ok f ≡ figure_answer s i = ap (λ (v : Figure). Ok v) is ∙ sym (cond-true _ _ _ b ∙ cond-true _ _ _ c.if-not-self.false) in
-    record { answer = a; law = figure_goes g.R.CostRule.result g.Q.Queue.sound g.Q.Queue.pairs s i (Ok f) a }
+    record { answer = a; law = figure_goes g.R.CostRule.rule g.Q.Queue.sound g.Q.Queue.pairs s i (Ok f) a }

@@ -11,7 +11,7 @@ returns-in-Ok-open g c =
     let s = c.in-Ok-open.session in
     let o = c.in-Ok-open.ensures in
     let r = c.run-answers.ensures in
-    let result = g.R.CostRule.result in
+    let result = g.R.CostRule.rule in
     let past = fresh (problem c.args.task) in
     let calls = map call_of c.args.calls.now in
     record {

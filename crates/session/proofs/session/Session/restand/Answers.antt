@@ -9,7 +9,7 @@ pub returns : goal.returns
 returns g c =
     let s = c.args.self.now in
     let k = c.refresh.new.self in
-    let rule = g.R.CostRule.result s.base.rule in
+    let rule = g.R.CostRule.rule s.base.rule in
     let p = problem s.base.task in
     let q = c.from.result in
     record {

@@ -14,7 +14,7 @@ use Rattle.session.proofs.session.Session.run.Goals as goal
 pub loop-call-init : goal.loop-call-init
 loop-call-init g c =
     let a = c.args.room.answers in
-    (omega (arith, ap length c.requires.none_yet, a.ok.0), c.requires.places, refl, (λ sd. sd), c.requires.stocked, working_none g.R.CostRule.result g.Q.Queue.sound g.Q.Queue.pairs c.args.self.now (vec_items a) c.requires.none_yet)
+    (omega (arith, ap length c.requires.none_yet, a.ok.0), c.requires.places, refl, (λ sd. sd), c.requires.stocked, working_none g.R.CostRule.rule g.Q.Queue.sound g.Q.Queue.pairs c.args.self.now (vec_items a) c.requires.none_yet)
 
 pub loop-call-preserved : goal.loop-call-preserved
 loop-call-preserved g c =
@@ -38,7 +38,7 @@ loop-call-preserved g c =
       e.base ∙ inv.2,
       (λ sd. e.keeps (inv.3 sd)),
       subst (λ (b : Base g.row.R.Denot). Stocked (settles rest) (2 * items (problem b.task)) es) inv.2 r.1,
-      working_more g.R.CostRule.result g.Q.Queue.sound g.Q.Queue.pairs s u t (take i calls) (take (i + 1) calls) (vec_items c.loop-call.answers) (vec_items c.push-reserved.new.self) k c.ask-one.result inv.2 (take_more calls i (Enter 0) c.loop-call-test.true) c.push-reserved.ensures.items inv.5 r.0,
+      working_more g.R.CostRule.rule g.Q.Queue.sound g.Q.Queue.pairs s u t (take i calls) (take (i + 1) calls) (vec_items c.loop-call.answers) (vec_items c.push-reserved.new.self) k c.ask-one.result inv.2 (take_more calls i (Enter 0) c.loop-call-test.true) c.push-reserved.ensures.items inv.5 r.0,
     )
 
 pub returns : goal.returns
@@ -48,5 +48,5 @@ returns g c =
     record {
       base = inv.2;
       keeps = inv.3;
-      law = subst (λ (l : List CallValue). Working g.R.CostRule.result g.Q.Queue.sound g.Q.Queue.pairs s l (vec_items c.loop-call.answers) c.loop-call.self) (take_all c.loop-call.call-index c.args.calls.now c.loop-call-test.false) inv.5;
+      law = subst (λ (l : List CallValue). Working g.R.CostRule.rule g.Q.Queue.sound g.Q.Queue.pairs s l (vec_items c.loop-call.answers) c.loop-call.self) (take_all c.loop-call.call-index c.args.calls.now c.loop-call-test.false) inv.5;
     }

@@ -10,6 +10,6 @@ invariant-loop-call g l =
     (vec_len l.answers ≡ l.call-index)
     × (length l.calls ≤ vec_capacity l.answers)
     × (l.self.base ≡ l.initial.self.base)
-    × (Sound g.R.CostRule.result g.Q.Queue.sound g.Q.Queue.pairs l.initial.self → Sound g.R.CostRule.result g.Q.Queue.sound g.Q.Queue.pairs l.self)
+    × (Sound g.R.CostRule.rule g.Q.Queue.sound g.Q.Queue.pairs l.initial.self → Sound g.R.CostRule.rule g.Q.Queue.sound g.Q.Queue.pairs l.self)
     × Stocked (settles (drop l.call-index l.calls)) (2 * items (task_of l.initial.self)) (vec_items l.dockets)
-    × Working g.R.CostRule.result g.Q.Queue.sound g.Q.Queue.pairs l.initial.self (take l.call-index l.calls) (vec_items l.answers) l.self
+    × Working g.R.CostRule.rule g.Q.Queue.sound g.Q.Queue.pairs l.initial.self (take l.call-index l.calls) (vec_items l.answers) l.self

@@ -21,8 +21,8 @@ returns-in-Ok g c =
       base = e.answer.base;
       keeps = e.keeps;
       law = λ long.
-          subst (λ (y : Reply). Goes g.R.CostRule.result g.Q.Queue.sound g.Q.Queue.pairs s (settle c.args.rows) y t) (ap (λ l. wrote (map row_of l)) (sym rows))
-          (settle_goes g.R.CostRule.result g.Q.Queue.sound g.Q.Queue.pairs s t e.keeps c.deref-mut.result.now last c.args.rows (Ok n) e.answer e.figures
+          subst (λ (y : Reply). Goes g.R.CostRule.rule g.Q.Queue.sound g.Q.Queue.pairs s (settle c.args.rows) y t) (ap (λ l. wrote (map row_of l)) (sym rows))
+          (settle_goes g.R.CostRule.rule g.Q.Queue.sound g.Q.Queue.pairs s t e.keeps c.deref-mut.result.now last c.args.rows (Ok n) e.answer e.figures
           (omega (arith, c.deref-mut.ensures.len, c.truncate.ensures.len)) (λ short. omega (arith, short, long, c.deref-mut.ensures.len, c.truncate.ensures.len)));
     }
 
@@ -33,6 +33,6 @@ returns-in-Err g c =
       base = ap (λ v. v.base) e.answer.2;
       keeps = e.keeps;
       law = λ long.
-          settle_goes g.R.CostRule.result g.Q.Queue.sound g.Q.Queue.pairs c.args.self.now c.settle.new.self e.keeps c.deref-mut.result.now c.settle.new.docket c.args.rows (Err c.in-Err.fault) e.answer e.figures
+          settle_goes g.R.CostRule.rule g.Q.Queue.sound g.Q.Queue.pairs c.args.self.now c.settle.new.self e.keeps c.deref-mut.result.now c.settle.new.docket c.args.rows (Err c.in-Err.fault) e.answer e.figures
           (omega (arith, c.deref-mut.ensures.len, c.truncate.ensures.len)) (λ short. omega (arith, short, long, c.deref-mut.ensures.len, c.truncate.ensures.len));
     }

@@ -19,7 +19,7 @@ returns-then-item-len g c =
     let q = c.args.item in
     let side = c.side-of-side.result in
     let pairs = g.Q.Queue.pairs in
-    let F = equations_of g.R.CostRule.result c.args.base.now c.args.state.now in
+    let F = equations_of g.R.CostRule.rule c.args.base.now c.args.state.now in
     let within : q < length held = omega (arith, c.if-item-len.true, c.len.ensures, h.figures.ok.0) in
     let long : length right ≡ length held = omega (arith, h.level, h.figures.ok.0, h.sides.ok.0) in
     record {
@@ -36,12 +36,12 @@ returns-else-item-len g c =
     let h = c.args.self.now in
     let held = vec_items h.figures in
     let q = c.args.item in
-    let F = equations_of g.R.CostRule.result c.args.base.now c.args.state.now in
+    let F = equations_of g.R.CostRule.rule c.args.base.now c.args.state.now in
     record {
       keeps = λ s. s;
       held = refl;
       after = λ fit stale t.
           stale_skip F held (vec_items h.sides) (g.Q.Queue.pairs h.queue) stale t q
           (omega (arith, c.if-item-len.false, c.len.ensures, h.figures.ok.0)) (omega (arith, h.level, h.figures.ok.0, h.sides.ok.0))
-          (at_past (g.R.CostRule.result c.args.base.now.rule) (problem c.args.base.now.task) (standing c.args.state.now) (table held) q (omega (arith, c.if-item-len.false, c.len.ensures, fit.long)));
+          (at_past (g.R.CostRule.rule c.args.base.now.rule) (problem c.args.base.now.task) (standing c.args.state.now) (table held) q (omega (arith, c.if-item-len.false, c.len.ensures, fit.long)));
     }

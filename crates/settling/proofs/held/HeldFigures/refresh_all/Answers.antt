@@ -14,7 +14,7 @@ loop-item-preserved g c =
     let m = c.refresh.new.self in
     let inv = c.loop-item.invariant in
     let e = c.refresh.ensures in
-    let F = equations_of g.R.CostRule.result c.args.base.now c.args.state.now in
+    let F = equations_of g.R.CostRule.rule c.args.base.now c.args.state.now in
     let x = get_or l i 0 in
     let cut : drop i l ≡ x ∷ drop (i + 1) l = drop_more l i 0 c.loop-item-test.true in (
       (λ s. e.keeps (inv.0 s)),
@@ -30,11 +30,11 @@ returns g c =
     let l = c.args.items.now in
     let k = c.loop-item.self in
     let inv = c.loop-item.invariant in
-    let F = equations_of g.R.CostRule.result c.args.base.now c.args.state.now in
+    let F = equations_of g.R.CostRule.rule c.args.base.now c.args.state.now in
     record {
       keeps = inv.0;
       held = inv.1;
       after = λ fit t.
           stale_none F (vec_items k.figures) (vec_items k.sides) (g.Q.Queue.pairs k.queue)
-          (subst (λ (v : List ℕ). Lapsing g.R.CostRule.result g.Q.Queue.pairs c.args.base.now c.args.state.now k (names v)) (drop_all c.loop-item.item-index l c.loop-item-test.false) (inv.2 fit t));
+          (subst (λ (v : List ℕ). Lapsing g.R.CostRule.rule g.Q.Queue.pairs c.args.base.now c.args.state.now k (names v)) (drop_all c.loop-item.item-index l c.loop-item-test.false) (inv.2 fit t));
     }

@@ -26,7 +26,7 @@ loop-n-preserved g c =
     let w = c.in-Some.row in
     let inv = c.loop-n.invariant in
     let e = c.in-Some.ensures in
-    let F = equations_of g.R.CostRule.result c.args.base.now c.args.state.now in (
+    let F = equations_of g.R.CostRule.rule c.args.base.now c.args.state.now in (
       omega (arith, c.loop-n-test.true, length-set d n w),
       later_more d c.args.docket.now n w inv.1,
       e.long ∙ inv.2,
@@ -46,7 +46,7 @@ returns-in-None g c =
     let inv = c.loop-n.invariant in
     let e = c.in-None.ensures in
     let base = c.args.base.now in
-    let F = equations_of g.R.CostRule.result base c.args.state.now in
+    let F = equations_of g.R.CostRule.rule base c.args.state.now in
     record {
       keeps = λ s. e.keeps (inv.3 s);
       long = e.long ∙ inv.2;
@@ -55,7 +55,7 @@ returns-in-None g c =
       after = λ s fit kept enough.
           let was = inv.4 s fit kept in
           let r = e.after (inv.3 s) (record { linked = fit.linked; long = inv.2 ∙ fit.long }) was.0 in
-          let doc = run_docket (g.R.CostRule.result base.rule) (g.met.R.CostRule.lawful base.rule) (problem base.task) (standing c.args.state.now) (vec_items h.figures) (vec_items k.figures) d n (omega (arith, fit.long, h.figures.ok.0)) was.1 in
+          let doc = run_docket (g.R.CostRule.rule base.rule) (g.met.R.CostRule.lawful base.rule) (problem base.task) (standing c.args.state.now) (vec_items h.figures) (vec_items k.figures) d n (omega (arith, fit.long, h.figures.ok.0)) was.1 in
           record {
             solves = subst (λ (v : List Figure). Solves F (table v)) (sym r.after) r.solves;
             docket = subst (λ (v : List Figure). Docket (vec_items h.figures) v (map row_of (take n d))) (sym r.after) doc;
@@ -71,7 +71,7 @@ returns g c =
     let n = c.loop-n.n in
     let inv = c.loop-n.invariant in
     let base = c.args.base.now in
-    let rule = g.R.CostRule.result base.rule in
+    let rule = g.R.CostRule.rule base.rule in
     let laws = g.met.R.CostRule.lawful base.rule in
     let p = problem base.task in
     let st = standing c.args.state.now in

@@ -19,7 +19,7 @@ pub returns-then-item-len : goal.returns-then-item-len
 returns-then-item-len g c =
     let h = c.args.self.now in
     let e = c.in-Some.ensures in
-    let F = equations_of g.R.CostRule.result c.args.base.now c.args.state.now in
+    let F = equations_of g.R.CostRule.rule c.args.base.now c.args.state.now in
     let found = c.in-Some.found in
     record {
       keeps = e.keeps;
@@ -45,8 +45,8 @@ returns-else-item-len g c =
     let pairs = g.Q.Queue.pairs in
     let base = c.args.base.now in
     let p = problem base.task in
-    let rule = g.R.CostRule.result base.rule in
-    let F = equations_of g.R.CostRule.result base c.args.state.now in
+    let rule = g.R.CostRule.rule base.rule in
+    let F = equations_of g.R.CostRule.rule base c.args.state.now in
     let f = c.moved-from-after.result in
     let within : q < length held = omega (arith, c.if-item-len.false, c.len.ensures, h.figures.ok.0) in
     let long : length right ≡ length held = omega (arith, h.level, h.figures.ok.0, h.sides.ok.0) in
@@ -73,7 +73,7 @@ pub returns-in-None : goal.returns-in-None
 returns-in-None g c =
     let h = c.args.self.now in
     let e = c.in-None.ensures in
-    let F = equations_of g.R.CostRule.result c.args.base.now c.args.state.now in
+    let F = equations_of g.R.CostRule.rule c.args.base.now c.args.state.now in
     record {
       keeps = e.keeps;
       long = refl;
