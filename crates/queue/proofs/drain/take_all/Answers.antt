@@ -7,7 +7,7 @@ use Rattle.queue.proofs.drain.take_all.Goals as goal
 pub loop-pair-init : goal.loop-pair-init
 loop-pair-init g c =
     let t = g.Q.Queue.pairs c.args.queue.now in
-    let leq = g.Key-as-Key.leq in
+    let leq = g.Q.Key.Key.leq in
     let l = vec_items c.args.all.now in
     let none : [] ≡ l = sym c.requires.empty.0 in (
       λ s. s,
@@ -16,8 +16,8 @@ loop-pair-init g c =
       omega (arith, c.requires.empty.1, c.requires.room, count_within t),
     )
 
-pub push-reserved-requires : goal.push-reserved-requires
-push-reserved-requires g c =
+pub push_reserved-requires : goal.push_reserved-requires
+push_reserved-requires g c =
     let p = c.in-Some.pair in
     let took = c.in-Some.ensures.after in
     omega (arith, c.loop-pair.invariant.3, count_taken (g.Q.Queue.pairs c.loop-pair.queue) p.0 p.1 took.1)
@@ -42,11 +42,11 @@ loop-pair-preserved g c =
     let u = g.Q.Queue.pairs c.loop-pair.queue in
     let w = g.Q.Queue.pairs c.take.new.self in
     let t = g.Q.Queue.pairs c.args.queue.now in
-    let leq = g.Key-as-Key.leq in
+    let leq = g.Q.Key.Key.leq in
     let l = vec_items c.loop-pair.all in
-    let m = vec_items c.push-reserved.new.self in
+    let m = vec_items c.push_reserved.new.self in
     let inv = c.loop-pair.invariant in
-    let push = c.push-reserved.ensures in
+    let push = c.push_reserved.ensures in
     let items : l ++ p ∷ [] ≡ m = sym push.items in
     let left : set u p.0 None ≡ w = sym took.after.2 in (
       λ s. took.keeps (inv.0 s),
@@ -57,7 +57,7 @@ loop-pair-preserved g c =
 
 pub returns : goal.returns
 returns g c =
-    let took = c.in-default.ensures in
+    let took = c.in_default.ensures in
     let inv = c.loop-pair.invariant in
     let t = g.Q.Queue.pairs c.args.queue.now in
     let u = g.Q.Queue.pairs c.loop-pair.queue in
@@ -65,5 +65,5 @@ returns g c =
     record {
       keeps = λ s. took.keeps (inv.0 s);
       after = subst (Drained t l) (sym took.after.1) (drained t l u inv.1 took.after.0);
-      order = λ s. ahead_ascends g.Key-as-Key.leq l u (inv.2 s);
+      order = λ s. ahead_ascends g.Q.Key.Key.leq l u (inv.2 s);
     }

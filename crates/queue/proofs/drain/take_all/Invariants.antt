@@ -7,7 +7,7 @@ abbrev pub invariant-loop-pair : goal.invariant-loop-pair
 invariant-loop-pair g l =
     (g.Q.Queue.sound l.initial.queue → g.Q.Queue.sound l.queue)
     × Removes (g.Q.Queue.pairs l.initial.queue) (vec_items l.all) (g.Q.Queue.pairs l.queue)
-    × (g.Q.Queue.sound l.initial.queue → Ahead g.Key-as-Key.leq (vec_items l.all) (g.Q.Queue.pairs l.queue))
+    × (g.Q.Queue.sound l.initial.queue → Ahead g.Q.Key.Key.leq (vec_items l.all) (g.Q.Queue.pairs l.queue))
     × (vec_len l.all + count (g.Q.Queue.pairs l.queue) ≤ vec_capacity l.all)
 
 abbrev pub decreases-loop-pair : goal.decreases-loop-pair
