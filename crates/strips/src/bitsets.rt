@@ -44,7 +44,8 @@ impl BitSet {
     }
 
     pub(crate) fn same(&self, other: &BitSet) -> bool
-        ensures { Decides result (members self.now ≡ members other.now) }
+        ensures words { Decides result (self.now.words ≡ other.now.words) }
+        ensures members { Decides result (members self.now ≡ members other.now) }
     {
         for i in 0..4 {
             if self.words[i] != other.words[i] {

@@ -1,5 +1,5 @@
 // Reading and changing states.
-ghost use Rattle.std.specs.Prelude.{◌≡◌, not, [], Decides};
+ghost use Rattle.std.specs.Prelude.{◌≡◌, not, [], Decides, nat_eq};
 ghost use Rattle.std.specs.List.{AllByRecursion};
 ghost use Rattle.model.specs.Strips.{Stands, these, entered, struck, changed};
 ghost use Rattle.model.specs.Rehearsals.{lacking};
@@ -7,17 +7,21 @@ ghost use Rattle.strips.specs.Members.{Covers, FirstFrom};
 ghost use Rattle.strips.specs.Standing.{standing};
 ghost use Rattle.std.specs.Cmp.Rules.{comparing};
 ghost use Rattle.std.proofs.Common.{rules};
-ghost use Rattle.std.specs.Cmp as Keys;
+ghost use Rattle.std.specs.Cmp.Lexicographic.{pointwise};
+ghost use Rattle.std.specs.Ordering.{on};
 
 use crate::bits::BitSet;
 use crate::state::State;
 
 impl PartialEq for State {
-    ghost equals = { λ a b r. Decides r (standing a ≡ standing b) };
+    ghost eq = { on (λ s. s.facts.words) (pointwise nat_eq) };
 
-    ghost laws = { Keys.partial_equiv_from_equiv (Prim.search (comparing, rules)) };
+    ghost laws = { Prim.search (comparing, rules) };
 
-    fn eq(&self, other: &State) -> bool {
+    fn eq(&self, other: &State) -> bool
+        ensures value { result ≡ pointwise nat_eq self.now.facts.words other.now.facts.words }
+        ensures same { Decides result (standing self.now ≡ standing other.now) }
+    {
         self.facts.same(&other.facts)
     }
 }

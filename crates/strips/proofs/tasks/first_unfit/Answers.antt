@@ -4,18 +4,18 @@ use Rattle.strips.specs.Fitting.{fits}
 use Rattle.strips.specs.Tasks.{first_unfit}
 use Rattle.strips.proofs.tasks.first_unfit.Goals as goal
 
-pub returns-then-not-action-fits : goal.returns-then-not-action-fits
-returns-then-not-action-fits c =
+pub returns-then-not-action_fits : goal.returns-then-not-action_fits
+returns-then-not-action_fits c =
     let n = c.args.facts in let xs = c.args.actions.now in let k = c.loop-k.k in
     let a = c.index-actions-k.result in
-    sym (at_drop_more (first_unfit n k) xs k a (omega arith) ∙ ap (λ b. cond b (first_unfit n (k + 1) (drop (k + 1) xs)) (Some k)) (ap (fits n) (sym c.index-actions-k.is) ∙ sym c.if-not-action-fits.ensures))
+    sym (at_drop_more (first_unfit n k) xs k a (omega arith) ∙ ap (λ b. cond b (first_unfit n (k + 1) (drop (k + 1) xs)) (Some k)) (ap (fits n) (sym c.index-actions-k.is) ∙ sym c.if-not-action_fits.ensures))
     ∙ c.loop-k.invariant
 
 pub loop-k-preserved : goal.loop-k-preserved
 loop-k-preserved c =
     let n = c.args.facts in let xs = c.args.actions.now in let k = c.loop-k.k in
     let a = c.index-actions-k.result in
-    sym (at_drop_more (first_unfit n k) xs k a (omega arith) ∙ ap (λ b. cond b (first_unfit n (k + 1) (drop (k + 1) xs)) (Some k)) (ap (fits n) (sym c.index-actions-k.is) ∙ sym c.if-not-action-fits.ensures))
+    sym (at_drop_more (first_unfit n k) xs k a (omega arith) ∙ ap (λ b. cond b (first_unfit n (k + 1) (drop (k + 1) xs)) (Some k)) (ap (fits n) (sym c.index-actions-k.is) ∙ sym c.if-not-action_fits.ensures))
     ∙ c.loop-k.invariant
 
 pub returns : goal.returns

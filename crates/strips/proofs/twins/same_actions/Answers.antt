@@ -12,12 +12,12 @@ returns-then-left-right c =
     let xs = c.args.left.now in let ys = c.args.right.now in
     (λ e. absurd (false≢true e), λ e. absurd (c.if-left-right.true (sym (length-map xs action_of) ∙ ap length e ∙ length-map ys action_of)))
 
-pub returns-then-not-same-action : goal.returns-then-not-same-action
-returns-then-not-same-action c =
+pub returns-then-not-same_action : goal.returns-then-not-same_action
+returns-then-not-same_action c =
     let xs = c.args.left.now in let ys = c.args.right.now in let k = c.loop-k.k in
     let a = c.index-left-k.result in let b = c.index-right-k.result in (
       (λ e. absurd (false≢true e)),
-      (λ e. c.if-not-same-action.ensures.1
+      (λ e. c.if-not-same_action.ensures.1
           (ap action_of c.index-left-k.is ∙ sym (get_d_map action_of xs k a no_action (omega arith)) ∙ ap (λ l. get_or l k no_action) e ∙ get_d_map action_of ys k b no_action (omega arith) ∙ ap action_of (sym c.index-right-k.is))),
     )
 
@@ -26,7 +26,7 @@ loop-k-preserved c =
     let xs = c.args.left.now in let ys = c.args.right.now in let k = c.loop-k.k in
     let a = c.index-left-k.result in let b = c.index-right-k.result in
     below_more _ _ c.loop-k.invariant
-    (get_d_map action_of xs k a no_action (omega arith) ∙ ap action_of (sym c.index-left-k.is) ∙ c.if-not-same-action.ensures.0 refl ∙ ap action_of c.index-right-k.is ∙ sym (get_d_map action_of ys k b no_action (omega arith)))
+    (get_d_map action_of xs k a no_action (omega arith) ∙ ap action_of (sym c.index-left-k.is) ∙ c.if-not-same_action.ensures.0 refl ∙ ap action_of c.index-right-k.is ∙ sym (get_d_map action_of ys k b no_action (omega arith)))
 
 pub returns : goal.returns
 returns c =

@@ -3,4 +3,4 @@ use Rattle.strips.proofs.Naming.{lacking_decides}
 use Rattle.strips.proofs.bits.BitSet.has_all.Goals as goal
 
 pub returns : goal.returns
-returns c = lacking_decides (members c.args.self.now) c.args.list.now c.first-missing.result c.is-none.result c.first-missing.ensures c.is-none.ensures
+returns c = lacking_decides (members c.args.self.now) c.args.list.now c.first_missing.result c.is_none.result c.first_missing.ensures c.is_none.ensures

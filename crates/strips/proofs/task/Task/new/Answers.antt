@@ -5,13 +5,21 @@ use Rattle.strips.specs.Tasks.{flaw}
 use Rattle.strips.proofs.Keeping.{unflawed}
 use Rattle.strips.proofs.task.Task.new.Goals as goal
 
-pub invariant-of-result : goal.invariant-of-result
-invariant-of-result c =
+pub invariant_of-result : goal.invariant_of-result
+invariant_of-result c =
     let n = c.args.facts in
     let none : flaw n (vec_items c.args.actions) (listed c.args.goal) (listed c.args.start) ≡ None =
-    ap (λ l. flaw n l (listed c.args.goal) (listed c.args.start)) (sym c.as-slice.ensures.value)
-    ∙ ap (λ l. flaw n c.as-slice.result.now l (listed c.args.start)) (sym c.as-slice-2.ensures)
-    ∙ ap (λ l. flaw n c.as-slice.result.now c.as-slice-2.result.now l) (sym c.as-slice-3.ensures)
+    ap (λ l. flaw n l (listed c.args.goal) (listed c.args.start)) (sym c.as_slice.ensures.value)
+    ∙ ap (λ l. flaw n c.as_slice.result.now l (listed c.args.start)) (sym c.as_slice-2.ensures)
+    ∙ ap (λ l. flaw n c.as_slice.result.now c.as_slice-2.result.now l) (sym c.as_slice-3.ensures)
     ∙ sym c.in-None.ensures in
     let u = unflawed n (vec_items c.args.actions) (listed c.args.goal) (listed c.args.start) none in
-    (u.some, (omega arith, (omega (arith, u.few, c.args.actions.ok.0), (u.fit, (u.goal_known, (u.start_known, (λ f. ap (λ s. s f) (c.of-wanted.ensures ∙ ap these c.as-slice-in-None.ensures), tt)))))))
+    record {
+      some = u.some;
+      low = omega arith;
+      few = omega (arith, u.few, c.args.actions.ok.0);
+      fit = u.fit;
+      goal_known = u.goal_known;
+      start_known = u.start_known;
+      wanted_goal = λ f. ap (λ s. s f) (c.of-wanted.ensures ∙ ap these c.as_slice-in-None.ensures);
+    }
