@@ -10,7 +10,7 @@ pub loop-q-init : goal.loop-q-init
 loop-q-init c = record { long = ap (λ v. length (map vec_items v)) c.new-all.ensures.items; each = λ q h. absurd (omega arith) }
 
 pub loop-q-preserved : goal.loop-q-preserved
-loop-q-preserved c = indexes_push c.loop-q.q (readers (problem c.args.task.now)) c.loop-q.all c.push.new.self c.in-ok-one.one c.loop-q.invariant c.in-ok-push.ensures.items c.in-ok-one.ensures
+loop-q-preserved c = indexes_push c.loop-q.q (readers (problem c.args.task.now)) c.loop-q.all c.push.new.self c.in_ok-one.one c.loop-q.invariant c.in_ok-push.ensures.items c.in_ok-one.ensures
 
 pub returns : goal.returns
-returns c = let e : c.loop-q.q ≡ items (problem c.args.task.now) = omega (arith, c.loop-q-test.false, c.loop-q.auto.q-end, c.item-count-q-end.ensures) in subst (λ n. Indexes n (readers (problem c.args.task.now)) (lists c.loop-q.all)) e c.loop-q.invariant
+returns c = let e : c.loop-q.q ≡ items (problem c.args.task.now) = omega (arith, c.loop-q-test.false, c.loop-q.auto.q-end, c.item_count-q-end.ensures) in subst (λ n. Indexes n (readers (problem c.args.task.now)) (lists c.loop-q.all)) e c.loop-q.invariant

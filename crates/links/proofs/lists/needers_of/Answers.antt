@@ -4,7 +4,7 @@ use Rattle.session_theory.specs.Readers.{needing_items}
 use Rattle.strips.specs.Tasks.{problem}
 use Rattle.links.proofs.Builds.{needing_more}
 use Rattle.links.proofs.lists.needers_of.Goals as goal
-use Rattle.links.proofs.lists.needers_of.Goals.{then-needs+in-ok-push, else-needs}
+use Rattle.links.proofs.lists.needers_of.Goals.{then-needs+in_ok-push, else-needs}
 
 pub loop-k-init : goal.loop-k-init
 loop-k-init c =
@@ -18,13 +18,13 @@ loop-k-preserved c =
     let acts = p.actions in
     let k = c.loop-k.k in
     let f = c.args.fact in
-    let within : k < length acts = omega (arith, c.loop-k-test.true, c.action-count-k-end.ensures.is) in
+    let within : k < length acts = omega (arith, c.loop-k-test.true, c.action_count-k-end.ensures.is) in
     let rest = needing_items f (p.facts + (k + 1)) (drop (k + 1) acts) in
     let all = vec_items c.loop-k.all in
     let item : c.from-facts.result + k ≡ p.facts + k = ap (λ n. n + k) (c.from-facts.ensures ∙ c.facts.ensures.is) in
     elim c.if-needs.branch [
-      | then-needs+in-ok-push w ↦
-          ap (λ v. vec_items v ++ rest) w.all-is ∙ ap (λ v. v ++ rest) w.in-ok-push.ensures.items
+      | then-needs+in_ok-push w ↦
+          ap (λ v. vec_items v ++ rest) w.all-is ∙ ap (λ v. v ++ rest) w.in_ok-push.ensures.items
           ∙ ap (λ i. (all ++ (i ∷ [])) ++ rest) item
           ∙ append_assoc all ((p.facts + k) ∷ []) rest
           ∙ ap (λ v. all ++ v) (sym (needing_more f p.facts k acts true within (sym c.needs.ensures ∙ w.if-needs.true)))
@@ -39,5 +39,5 @@ pub returns : goal.returns
 returns c =
     let p = problem c.args.task.now in
     let k = c.loop-k.k in
-    let past : length p.actions ≤ k = omega (arith, c.loop-k-test.false, c.action-count-k-end.ensures.is) in
+    let past : length p.actions ≤ k = omega (arith, c.loop-k-test.false, c.action_count-k-end.ensures.is) in
     sym (append-nil (vec_items c.loop-k.all)) ∙ ap (λ l. vec_items c.loop-k.all ++ needing_items c.args.fact (p.facts + k) l) (sym (drop_all k p.actions past)) ∙ c.loop-k.invariant

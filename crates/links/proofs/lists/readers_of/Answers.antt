@@ -12,7 +12,7 @@ returns-then-item-facts c =
     let p = problem c.args.task.now in
     let q = c.args.item in
     let e : readers p q ≡ needing_items q p.facts p.actions = cond-true _ _ _ (lt-ltb q p.facts (omega (arith, c.if-item-facts.true, c.from-facts.ensures, c.facts.ensures.is))) in
-    subst (λ (l : List ℕ). IfOk c.needers-of.result (λ v. vec_items v ≡ l)) (sym e) c.needers-of.ensures
+    subst (λ (l : List ℕ). IfOk c.needers_of.result (λ v. vec_items v ≡ l)) (sym e) c.needers_of.ensures
 
 pub returns-in-Some : goal.returns-in-Some
 returns-in-Some c =
@@ -22,7 +22,7 @@ returns-in-Some c =
     let e : readers p q ≡ (action p (q - p.facts)).add = cond-false _ _ _ (le-ltb q p.facts (omega (arith, c.if-item-facts.false, c.from-facts.ensures, c.facts.ensures.is))) in
     let a = action_some p.actions (q - c.from-facts.result) (action_of c.in-Some.act.now) c.in-Some.ensures in
     let same : c.adds.result.now ≡ readers p q = c.adds.ensures ∙ ap (λ z. z.add) (sym a) ∙ ap (λ n. (action p n).add) less ∙ sym e in
-    subst (λ (l : List ℕ). IfOk c.as-items.result (λ v. vec_items v ≡ l)) same c.as-items.ensures
+    subst (λ (l : List ℕ). IfOk c.as_items.result (λ v. vec_items v ≡ l)) same c.as_items.ensures
 
 pub returns-in-None : goal.returns-in-None
 returns-in-None c =

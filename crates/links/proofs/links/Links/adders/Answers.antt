@@ -8,7 +8,7 @@ use Rattle.links.proofs.links.Links.adders.Goals as goal
 pub returns-then-fact-len : goal.returns-then-fact-len
 returns-then-fact-len c =
     let v = c.args.self.now.adders in
-    c.as-slice.ensures.value ∙ lists_at v c.args.fact c.index.result.now (omega (arith, v.ok.0, c.if-fact-len.true, c.len.ensures)) c.index.ensures
+    c.as_slice.ensures.value ∙ lists_at v c.args.fact c.index.result.now (omega (arith, v.ok.0, c.if-fact-len.true, c.len.ensures)) c.index.ensures
 
 pub returns : goal.returns
 returns c =

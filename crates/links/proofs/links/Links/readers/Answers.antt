@@ -8,7 +8,7 @@ use Rattle.links.proofs.links.Links.readers.Goals as goal
 pub returns-then-item-len : goal.returns-then-item-len
 returns-then-item-len c =
     let v = c.args.self.now.readers in
-    c.as-slice.ensures.value ∙ lists_at v c.args.item c.index.result.now (omega (arith, v.ok.0, c.if-item-len.true, c.len.ensures)) c.index.ensures
+    c.as_slice.ensures.value ∙ lists_at v c.args.item c.index.result.now (omega (arith, v.ok.0, c.if-item-len.true, c.len.ensures)) c.index.ensures
 
 pub returns : goal.returns
 returns c =
