@@ -1,5 +1,5 @@
 -- Figures are equal where their ranks are. Assumes nothing.
-use Rattle.std.proofs.Common.{◌≡◌, ℕ, ◌≤◌, sym, refl, ap, ◌∙◌, subst, arith}
+use Rattle.std.proofs.Common.{◌≡◌, ℕ, ◌≤◌, refl, ap, subst, arith}
 use native.Mathlib.Bridge.{le_prop}
 use Rattle.figure.specs.declared.cost.Cost.{Cost}
 use Rattle.figure.specs.declared.figure.Figure.{Figure}

@@ -1,6 +1,6 @@
 -- The worked examples. Assumes nothing.
-use Rattle.std.proofs.Common.{◌≡◌, Bool, true, false, not, ◌&&◌, ◌||◌, refl, arith}
-use Rattle.model.specs.Strips.{State, May, step, Goal}
+use Rattle.std.proofs.Common.{◌≡◌, Bool, true, false, ◌&&◌, ◌||◌, refl, arith}
+use Rattle.model.specs.Strips.{May, step, Goal}
 use Rattle.model.specs.Examples.{Worked}
 
 or_true : (b : Bool) → (b || true) ≡ true

@@ -1,14 +1,13 @@
 -- Runs of a session, call by call. Assumes nothing.
-use Rattle.std.proofs.Common.{◌≡◌, ℕ, ◌*◌, ◌<◌, ◌≤◌, Bool, true, false, cond, ltb, List, [], ◌∷◌, ◌++◌, map, Some, None, sym, refl, ap, ◌∙◌, subst, ⊎_elim, arith}
-use Rattle.std.proofs.lemmas.Bool.{cases_Bool, cond-true, cond-false, le-ltb, true≢false, false≢true}
+use Rattle.std.proofs.Common.{◌≡◌, ℕ, ◌*◌, Bool, true, false, cond, ltb, List, [], ◌∷◌, ◌++◌, map, Some, sym, refl, ap, ◌∙◌, subst}
+use Rattle.std.proofs.lemmas.Bool.{cond-false, le-ltb, true≢false, false≢true}
 use Rattle.figure.specs.Ranks.{halved}
 use Rattle.model.specs.Strips.{Problem, State, items, these}
 use Rattle.model.specs.Figures.{Rule, Laws, Table, figure_of, node, equations, Solves, goal_figure}
 use Rattle.model.specs.Runs.{Past, fresh, at_rest, next, ended, Tabled, Right, Rights, Tells, Restarted, FreshStart, Call, Reply}
 use Rattle.model.specs.Runs.Call.{enter, strike, settle, figure, goal}
 use Rattle.model.specs.Runs.Reply.{is, refused}
-use Rattle.model.proofs.Equations.{one_table, map_same}
-use Rattle.std.proofs.ByRecursion.{All-weaker}
+use Rattle.model.proofs.Equations.{one_table}
 
 pub pick_true : (b : Bool) (A B : Type 0) → b ≡ true → A → cond b A B
 pick_true true A B e x = x

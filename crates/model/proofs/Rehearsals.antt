@@ -1,9 +1,9 @@
 -- A rehearsal's answer is given exactly where what it says is so. Assumes nothing.
-use Rattle.std.proofs.Common.{◌≡◌, ℕ, zero, suc, ◌+◌, ◌<◌, ◌≤◌, Bool, true, false, cond, ltb, ◌⊎◌, List, [], ◌∷◌, length, get_or, take, Some, None, Option, sym, refl, ap, ◌∙◌, subst, inl, inr, ⊎_elim, arith, le-ltb, lt-ltb}
+use Rattle.std.proofs.Common.{◌≡◌, ℕ, zero, suc, ◌+◌, Bool, true, false, cond, ◌⊎◌, List, [], ◌∷◌, length, Some, None, sym, refl, ap, ◌∙◌, subst, inl, inr, ⊎_elim, arith, le-ltb, lt-ltb}
 use Rattle.std.proofs.lemmas.Bool.{cases_lt}
 use Rattle.std.specs.List.{AllByRecursion}
-use Rattle.model.specs.Strips.{Problem, State, action, May, step, Goal, Path, after, Plan, Stands, FirstMissing}
-use Rattle.model.specs.Rehearsals.{Verdict, plan, unknown, blocked, missing, lacking, unless, verdict_from, verdict, UpTo, Judged, Verdicts}
+use Rattle.model.specs.Strips.{Problem, State, action, May, step, Goal, Plan, Stands, FirstMissing}
+use Rattle.model.specs.Rehearsals.{Verdict, plan, unknown, blocked, missing, lacking, unless, verdict_from, Judged, Verdicts}
 
 pub every_lacking : (s : State) (l : List ℕ) → AllByRecursion (Stands s) l → lacking s l ≡ None
 every_lacking s [] h = refl

@@ -1,5 +1,5 @@
 -- Small worked examples. Assumes nothing.
-use Rattle.std.specs.Prelude.{◌≡◌, ℕ, true, List, [], ◌∷◌}
+use Rattle.std.specs.Prelude.{◌≡◌, ℕ, List, [], ◌∷◌}
 use Rattle.model.specs.Strips.{Problem, Action, State, these, step, Plan, Stands}
 use Rattle.model.specs.Rehearsals.{verdict, blocked}
 

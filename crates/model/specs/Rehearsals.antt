@@ -5,8 +5,8 @@
 --   Judged     what each answer says of the list
 --   Verdicts   the answer is the one that is so, and the only one
 --   reading    the number and the values of an answer
-use Rattle.std.specs.Prelude.{◌≡◌, ℕ, ◌+◌, ◌<◌, ◌≤◌, Bool, true, false, cond, List, [], ◌∷◌, length, take, Some, None, Option, nat_lt, slice_index}
-use Rattle.model.specs.Strips.{Problem, State, action, May, step, Goal, Path, after, Plan, FirstMissing}
+use Rattle.std.specs.Prelude.{◌≡◌, ℕ, ◌+◌, ◌<◌, ◌≤◌, cond, List, [], ◌∷◌, length, take, Some, None, Option, nat_lt, slice_index}
+use Rattle.model.specs.Strips.{Problem, State, action, step, Path, after, Plan, FirstMissing}
 
 -- a plan; an unknown action at a step; a step blocked by a fact; a goal fact missing at the end
 pub data Verdict : Type 0 where

@@ -1,5 +1,5 @@
 -- Lemmas on pairs taken one after another. Assumes nothing.
-use Rattle.std.proofs.Common.{◌≡◌, ℕ, ◌+◌, Bool, true, List, [], ◌∷◌, ◌++◌, length, set, replicate, Some, None, Option, sym, ap, ◌∙◌, length-set}
+use Rattle.std.proofs.Common.{◌≡◌, ℕ, Bool, true, List, [], ◌∷◌, ◌++◌, length, set, replicate, Some, None, Option, sym, ap, ◌∙◌, length-set}
 use Rattle.queue.specs.Queues.{at, vacant, Removes, Ascends, Smallest, Drained}
 use Rattle.queue.proofs.Tables.{at_without, vacant_fresh}
 

@@ -1,5 +1,5 @@
 -- The queue of a session and its figures. Assumes nothing.
-use Rattle.std.proofs.Common.{◌≡◌, ℕ, ◌+◌, ◌<◌, ◌≤◌, min, Bool, true, false, cond, not, ◌&&◌, eqb, leb, ◌≢◌, ◌⊎◌, List, [], ◌∷◌, length, get_or, set, replicate, Option, sym, refl, ap, ◌∙◌, subst, ap₂, inl, inr, ⊎_elim, arith, length-set}
+use Rattle.std.proofs.Common.{◌≡◌, ℕ, ◌+◌, ◌<◌, ◌≤◌, min, true, false, not, ◌&&◌, leb, ◌≢◌, List, length, get_or, set, replicate, Option, sym, refl, ap, ◌∙◌, subst, ap₂, inl, inr, ⊎_elim, arith, length-set}
 use lib.ListN.{length-replicate}
 use Rattle.std.proofs.lemmas.List.{get_or_past, get_or-set_same, get_or-set_other, get_or-replicate}
 use Rattle.std.proofs.lemmas.Bool.{cases_lt, cases_eq, cases_Bool, cond-true, cond-false, eq-eqb, ne_eqb, leb-true, leb-false, le-leb, true≢false}
@@ -10,11 +10,10 @@ use Rattle.figure.specs.Ranks.{top, rank}
 use Rattle.figure.proofs.Same.{same_rank}
 use Rattle.model.specs.Strips.{State, struck}
 use Rattle.model.specs.Figures.{Table, table, Solves}
-use Rattle.model.specs.Settling.{Consistent, key}
 use Rattle.model.proofs.Ranked.{table_past, table_same, table_other}
 use Rattle.queue.specs.Queues.{at, vacant}
-use Rattle.queue.proofs.Tables.{none_some, some_some, vacant_empty}
-use Rattle.session_theory.specs.Kept.{Queued, Kept, smaller, due, Dues, Stale}
+use Rattle.queue.proofs.Tables.{none_some, vacant_empty}
+use Rattle.session_theory.specs.Kept.{Kept, smaller, due, Dues, Stale}
 
 pub rank_smaller : (a b : Figure) → rank (smaller a b) ≡ min (rank a) (rank b)
 rank_smaller a b =

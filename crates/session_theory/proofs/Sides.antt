@@ -1,5 +1,5 @@
 -- The equation of an item, by what the item is. Assumes nothing.
-use Rattle.std.proofs.Common.{◌≡◌, ℕ, zero, suc, ◌+◌, ◌-◌, ◌<◌, ◌≤◌, Bool, true, false, List, [], ◌∷◌, map, length, get_or, Some, None, Option, sym, refl, ap, ◌∙◌, subst, arith}
+use Rattle.std.proofs.Common.{◌≡◌, ℕ, zero, suc, ◌+◌, ◌-◌, ◌<◌, ◌≤◌, true, false, List, [], ◌∷◌, map, length, get_or, Some, None, ap, arith}
 use Rattle.std.specs.List.{slice_get}
 use Rattle.figure.specs.Ranks.{top, cut}
 use Rattle.model.specs.Strips.{Problem, State, items, action}

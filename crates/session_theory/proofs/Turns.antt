@@ -1,19 +1,19 @@
 -- One turn of a settling: an item is taken from the queue and gets its next figure. Assumes nothing.
-use Rattle.std.proofs.Common.{◌≡◌, ℕ, ◌<◌, ◌≤◌, min, Bool, true, false, cond, eqb, ltb, leb, ◌≢◌, ◌⊎◌, List, [], ◌∷◌, length, get_or, set, Option, sym, refl, ap, ◌∙◌, subst, ap₂, inl, inr, ⊎_elim, arith, length-set}
+use Rattle.std.proofs.Common.{◌≡◌, ℕ, ◌<◌, true, ◌⊎◌, List, length, get_or, set, Option, sym, ap, ◌∙◌, subst, inl, inr, ⊎_elim, arith, length-set}
 use Rattle.std.proofs.lemmas.List.{get_or-set_same, get_or-set_other}
-use Rattle.std.proofs.lemmas.Bool.{cases_lt, cases_eq, cases_Bool, cond-true, cond-false, leb-true, lt-ltb, le-ltb}
+use Rattle.std.proofs.lemmas.Bool.{cases_lt, cases_eq, cond-true, cond-false, leb-true, lt-ltb, le-ltb}
 use Rattle.std.specs.declared.option.Option.TheVariants as option
 use Rattle.figure.specs.declared.figure.Figure.{Figure}
 use Rattle.figure.specs.declared.figure.Figure.TheVariants.{None}
-use Rattle.figure.specs.Ranks.{top, rank}
+use Rattle.figure.specs.Ranks.{rank}
 use Rattle.model.specs.Strips.{State}
-use Rattle.model.specs.Figures.{Table, table, Solves}
+use Rattle.model.specs.Figures.{Table, table}
 use Rattle.model.specs.Settling.{Consistent, key, NoKeyBelow, Step, next}
 use Rattle.model.proofs.Ranked.{table_past}
 use Rattle.queue.specs.Queues.{at}
 use Rattle.queue.specs.Keys.{figure_leq}
 use Rattle.queue.proofs.Tables.{none_some, some_some}
-use Rattle.session_theory.specs.Kept.{Queued, Kept, due, Dues, Stale, moved}
+use Rattle.session_theory.specs.Kept.{Kept, due, Stale, moved}
 use Rattle.session_theory.proofs.Queues.{kept_dues}
 
 module _ (F : Table → Table) (held right : List Figure) (pairs : List (Option Figure)) (k : Kept F held right pairs) (q : ℕ) (m : Figure) (here : at pairs q ≡ option.Some m) where

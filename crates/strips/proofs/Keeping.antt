@@ -1,17 +1,16 @@
 -- What a task's invariants say of its problem. Assumes nothing.
-use Rattle.std.proofs.Common.{◌≡◌, ℕ, zero, suc, ◌+◌, ◌<◌, ◌≤◌, min, Bool, true, false, cond, ◌&&◌, eqb, ltb, List, [], ◌∷◌, map, length, get_or, take, Some, None, vec_items, vec_len, Option, sym, refl, ap, ◌∙◌, subst, ⊎_elim, arith, length-take}
+use Rattle.std.proofs.Common.{◌≡◌, ℕ, zero, suc, ◌+◌, ◌<◌, ◌≤◌, Bool, true, false, cond, ◌&&◌, eqb, ltb, List, [], ◌∷◌, map, length, get_or, take, Some, None, vec_items, Option, sym, refl, ap, ◌∙◌, subst, ⊎_elim, arith, length-take}
 use mathlib.Core.Path.{fun_ext}
 use lib.ListN.{length-map}
-use Rattle.std.specs.List.{AllByRecursion, list_all}
+use Rattle.std.specs.List.{AllByRecursion}
 use Rattle.std.proofs.lemmas.List.{get_or_past}
 use Rattle.std.proofs.lemmas.Bool.{ltb-true, ltb-false, and_parts, cases_lt, eq-eqb, false≢true}
-use Rattle.model.specs.Strips.{Rising, Listed, Fits, Lawful, Problem, State as Facts, Stands, May, step, Goal, action, no_action, changed, these, names}
+use Rattle.model.specs.Strips.{Rising, Listed, Fits, Lawful, State as Facts, Stands, step, action, no_action, changed, these, names}
 use Rattle.strips.specs.declared.list.FactList.{FactList}
 use Rattle.strips.specs.declared.action.Action.{Action}
 use Rattle.strips.specs.declared.task.Task.{Task}
 use Rattle.strips.specs.Lists.{listed}
 use Rattle.strips.specs.Members.{Covers}
-use Rattle.strips.specs.Standing.{standing}
 use Rattle.strips.specs.Actions.{action_of}
 use Rattle.strips.specs.Fitting.{below, fits, all_fit}
 use Rattle.strips.specs.declared.fault.TaskFault.TheVariants.{NoFacts, TooManyActions, InAction, InGoal, InStart}

@@ -1,5 +1,5 @@
 -- Bits of numbers, place by place. Assumes nothing.
-use Rattle.std.proofs.Common.{◌≡◌, ℕ, zero, suc, ◌+◌, ◌-◌, ◌*◌, ◌/◌, ◌%◌, ◌^◌, ◌<◌, ◌≤◌, min, max, Bool, true, false, cond, not, ◌&&◌, ◌||◌, eqb, sym, refl, ap, ◌∙◌, subst, mod-lt, pow-suc, div-one, one-add, arith}
+use Rattle.std.proofs.Common.{◌≡◌, ℕ, zero, suc, ◌-◌, ◌*◌, ◌/◌, ◌%◌, ◌^◌, ◌<◌, min, max, false, not, ◌&&◌, ◌||◌, eqb, sym, refl, ap, ◌∙◌, mod-lt, pow-suc, div-one, one-add, arith}
 use lib.Bits.{bit_or, bit_and, or_step, and_step, or_shr, and_shr}
 use Rattle.std.proofs.lemmas.Nat.{shr-shr, pow_pos}
 use Rattle.std.proofs.lemmas.Bool.{ne_eqb}

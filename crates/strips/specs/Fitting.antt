@@ -1,5 +1,5 @@
 -- Whether lists and actions name only facts of a task. Assumes nothing.
-use Rattle.std.specs.Prelude.{ℕ, Bool, true, ◌&&◌, List, nat_lt}
+use Rattle.std.specs.Prelude.{ℕ, Bool, ◌&&◌, List, nat_lt}
 use Rattle.std.specs.List.{list_all}
 use Rattle.strips.specs.declared.action.Action.{Action}
 use Rattle.strips.specs.Lists.{listed}

@@ -3,7 +3,7 @@
 --   listed   the facts of a list, in order
 --   Pushed   what putting a fact at the end answers and leaves
 --   number   a refusal's number
-use Rattle.std.specs.Prelude.{◌≡◌, ℕ, ◌-◌, ◌<◌, ◌≤◌, cond, List, [], ◌∷◌, ◌++◌, length, take, Ok, Err, Result, slice_index}
+use Rattle.std.specs.Prelude.{◌≡◌, ℕ, ◌-◌, ◌<◌, ◌≤◌, List, [], ◌∷◌, ◌++◌, length, take, Ok, Err, Result, slice_index}
 use Rattle.strips.specs.declared.fault.ListFault.{ListFault}
 use Rattle.strips.specs.declared.fault.ListFault.TheVariants.{Full, NotRising}
 use Rattle.strips.specs.declared.list.FactList.{FactList}

@@ -4,7 +4,7 @@
 --   members      the meaning of a set: number f is bit f % 64 of word f / 64
 --   Covers       every fact of one state stands in another
 --   FirstFrom   the first fact at or beyond a number that stands
-use Rattle.std.specs.Prelude.{◌≡◌, ℕ, ◌/◌, ◌%◌, ◌^◌, ◌<◌, ◌≤◌, Bool, true, false, Some, None, Option, ◌==◌, slice_index}
+use Rattle.std.specs.Prelude.{◌≡◌, ℕ, ◌/◌, ◌%◌, ◌^◌, ◌<◌, ◌≤◌, Bool, false, Some, None, Option, ◌==◌, slice_index}
 use Rattle.model.specs.Strips.{State, Stands, Within}
 use Rattle.strips.specs.declared.bits.BitSet.{BitSet}
 

@@ -1,6 +1,5 @@
-use Rattle.std.proofs.Common.{◌≡◌, ℕ, List, [], map, length, vec_items, sym, ap, ◌∙◌, subst, arith}
+use Rattle.std.proofs.Common.{◌≡◌, map, length, vec_items, ap, subst, arith}
 use Rattle.model.specs.Figures.{adders}
-use Rattle.model.specs.Strips.{items}
 use Rattle.strips.specs.Tasks.{problem}
 use Rattle.links.specs.Indexes.{lists, Indexes}
 use Rattle.links.proofs.Builds.{indexes_push}

@@ -1,4 +1,4 @@
-use Rattle.std.proofs.Common.{◌≡◌, ℕ, List, [], map, length, vec_items, sym, ap, ◌∙◌, subst, arith}
+use Rattle.std.proofs.Common.{◌≡◌, map, length, vec_items, ap, subst, arith}
 use Rattle.session_theory.specs.Readers.{readers}
 use Rattle.model.specs.Strips.{items}
 use Rattle.strips.specs.Tasks.{problem}

@@ -1,4 +1,4 @@
-use Rattle.std.proofs.Common.{◌≡◌, sym, ap, ◌∙◌}
+use Rattle.std.proofs.Common.{sym, ap, ◌∙◌}
 use Rattle.model.specs.Strips.{names}
 use Rattle.strips.specs.Tasks.{problem}
 use Rattle.links.proofs.Builds.{action_some, action_none}

@@ -1,6 +1,6 @@
-use Rattle.std.proofs.Common.{◌≡◌, ℕ, ◌-◌, ◌<◌, ◌≤◌, ltb, List, IfOk, vec_items, sym, refl, ap, ◌∙◌, subst, arith}
+use Rattle.std.proofs.Common.{◌≡◌, ℕ, ◌-◌, List, IfOk, vec_items, sym, ap, ◌∙◌, subst, arith}
 use Rattle.std.proofs.lemmas.Bool.{cond-true, cond-false, lt-ltb, le-ltb}
-use Rattle.model.specs.Strips.{action, no_action}
+use Rattle.model.specs.Strips.{action}
 use Rattle.strips.specs.Tasks.{problem}
 use Rattle.strips.specs.Actions.{action_of}
 use Rattle.session_theory.specs.Readers.{needing_items, readers}

@@ -1,4 +1,4 @@
-use Rattle.std.proofs.Common.{◌≡◌, ◌+◌, [], ◌∷◌, ◌++◌, set, None, vec_items, sym, refl, ap, subst, arith}
+use Rattle.std.proofs.Common.{◌≡◌, [], ◌∷◌, ◌++◌, set, None, vec_items, sym, refl, subst, arith}
 use Rattle.queue.specs.Queues.{count, Removes, Drained}
 use Rattle.queue.proofs.Tables.{count_taken, count_within}
 use Rattle.queue.proofs.Drains.{Ahead, removes_more, ahead_more, ahead_ascends, drained}

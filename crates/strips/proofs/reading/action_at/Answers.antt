@@ -1,4 +1,4 @@
-use Rattle.std.proofs.Common.{◌≡◌, map, Some, vec_items, sym, ap, ◌∙◌, arith}
+use Rattle.std.proofs.Common.{map, Some, vec_items, ap, ◌∙◌, arith}
 use lib.ListN.{length-map}
 use Rattle.std.proofs.lemmas.Option.{slice_get-get_or, slice_get_past}
 use Rattle.model.specs.Strips.{no_action}

@@ -1,4 +1,4 @@
-use Rattle.std.proofs.Common.{◌≡◌, ℕ, ◌<◌, map, length, get_or, sym, refl, ap, ◌∙◌, arith, below_more}
+use Rattle.std.proofs.Common.{map, length, get_or, sym, refl, ap, ◌∙◌, arith, below_more}
 use lib.ListN.{length-map}
 use Rattle.std.proofs.lemmas.List.{ext_get_or}
 use Rattle.std.proofs.lemmas.Bool.{false≢true}

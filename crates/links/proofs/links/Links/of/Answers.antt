@@ -1,4 +1,4 @@
-use Rattle.std.proofs.Common.{◌≡◌, sym, ap, ◌∙◌}
+use Rattle.std.proofs.Common.{ap, ◌∙◌}
 use Rattle.model.specs.Strips.{names}
 use Rattle.strips.specs.Tasks.{problem}
 use Rattle.session_theory.proofs.Reading.{read_listed}

@@ -1,4 +1,4 @@
-use Rattle.std.proofs.Common.{◌≡◌, ℕ, ◌+◌, ◌<◌, not, ◌&&◌, ◌||◌, get_or, sym, refl, ap, ◌∙◌, arith, length-set, get_or-set_other, get_or-set_same, below_more}
+use Rattle.std.proofs.Common.{not, ◌&&◌, ◌||◌, get_or, refl, ap, ◌∙◌, arith, length-set, get_or-set_other, get_or-set_same, below_more}
 use Rattle.strips.specs.Members.{members, bit}
 use Rattle.strips.proofs.Words.{change_word, change_words}
 use Rattle.strips.proofs.bits.BitSet.change.Goals as goal

@@ -1,4 +1,4 @@
-use Rattle.std.proofs.Common.{◌≡◌, ℕ, zero, suc, ◌/◌, ◌%◌, false, [], ◌∷◌, get_or, refl, ap, ◌∙◌}
+use Rattle.std.proofs.Common.{◌≡◌, ℕ, zero, suc, ◌/◌, ◌%◌, [], ◌∷◌, get_or, refl, ap, ◌∙◌}
 use mathlib.Core.Path.{fun_ext}
 use Rattle.strips.specs.Members.{members, bit}
 use Rattle.strips.proofs.Places.{no_bit}

@@ -1,4 +1,4 @@
-use Rattle.std.proofs.Common.{◌≡◌, eqb, ap}
+use Rattle.std.proofs.Common.{eqb, ap}
 use lib.Bits.{and_mask}
 use Rattle.strips.specs.Members.{members}
 use Rattle.strips.proofs.bits.BitSet.get.Goals as goal

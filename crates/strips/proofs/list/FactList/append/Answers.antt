@@ -1,4 +1,4 @@
-use Rattle.std.proofs.Common.{◌≡◌, ◌<◌, sym, subst, arith, length-set}
+use Rattle.std.proofs.Common.{◌<◌, subst, arith, length-set}
 use Rattle.std.proofs.lemmas.List.{length-take-le, take_more_set}
 use Rattle.strips.proofs.Tails.{last_taken, rising_more}
 use Rattle.strips.proofs.list.FactList.append.Goals as goal

@@ -1,4 +1,4 @@
-use Rattle.std.proofs.Common.{◌≡◌, ℕ, List, None, vec_items, sym, ap, ◌∙◌, subst, arith}
+use Rattle.std.proofs.Common.{◌≡◌, None, vec_items, sym, ap, ◌∙◌, arith}
 use Rattle.model.specs.Strips.{these}
 use Rattle.strips.specs.Lists.{listed}
 use Rattle.strips.specs.Tasks.{flaw}
