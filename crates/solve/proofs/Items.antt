@@ -1,5 +1,5 @@
 -- What a fact's and an action's equation read. Assumes nothing.
-use Rattle.std.proofs.Common.{◌≡◌, ℕ, zero, suc, ◌+◌, ◌-◌, ◌<◌, ◌≤◌, min, Bool, true, false, cond, eqb, ltb, ◌⊎◌, List, [], ◌∷◌, map, length, Some, None, Decides, sym, refl, ap, ◌∙◌, inl, inr, ⊎_elim, arith}
+use Rattle.std.proofs.Common.{◌≡◌, ℕ, zero, suc, ◌+◌, ◌-◌, ◌<◌, ◌≤◌, min, Bool, cond, eqb, ltb, List, [], ◌∷◌, map, length, Some, None, sym, refl, ap, ◌∙◌, ⊎_elim, arith}
 use Rattle.std.specs.List.{IsAnyAnswer, slice_get}
 use Rattle.std.proofs.lemmas.List.{get_or_past}
 use Rattle.std.proofs.lemmas.List.Elements.{contains_decides}
@@ -7,12 +7,12 @@ use Rattle.std.proofs.lemmas.Option.{slice_get-get_or}
 use Rattle.std.proofs.lemmas.Bool.{cases_lt, cases_Bool, cond-true, cond-false, lt-ltb, le-ltb}
 use Rattle.std.proofs.lemmas.Bool.Decides.{same_from_decides, Decides-by_or, Decides-eqb}
 use Rattle.figure.specs.Ranks.{top}
-use Rattle.model.specs.Strips.{Problem, Action, State, items, names, action, no_action}
+use Rattle.model.specs.Strips.{Problem, Action, State, names, action, no_action}
 use Rattle.model.specs.Figures.{Rule, Table, least, adding, adders, side, fact_from, action_from, equations}
 use Rattle.model.proofs.Equations.{node_standing, node_added, node_action, node_past}
 
 -- whether a list names a fact is what `contains` tells
-pub contained : (l : List ℕ) (f : ℕ) (r : Bool) → IsAnyAnswer (λ y t. Decides t (y ≡ f)) l r → r ≡ names l f
+pub contained : (l : List ℕ) (f : ℕ) (r : Bool) → IsAnyAnswer (λ y t. eqb y f ≡ t) l r → r ≡ names l f
 contained l f r h =
     same_from_decides r (names l f) (contains_decides eqb Decides-eqb l f r h)
     (Decides-by_or (λ y. eqb y f) (λ y. y ≡ f) (λ xs. names xs f) (λ y. Decides-eqb y f) refl (λ _ _. refl) l)

@@ -1,4 +1,4 @@
-use Rattle.std.proofs.Common.{◌≡◌, map, sym, ap, ◌∙◌}
+use Rattle.std.proofs.Common.{map, ap, ◌∙◌}
 use Rattle.model.specs.Figures.{table, action_from}
 use Rattle.strips.specs.Actions.{action_of}
 use Rattle.strips.specs.Tasks.{problem}
@@ -8,7 +8,7 @@ use Rattle.solve.proofs.side.action_side.Goals as goal
 pub returns-in-Some : goal.returns-in-Some
 returns-in-Some g c =
     let rule = g.R.CostRule.rule c.args.rule.now in let x = table c.args.figures.now in
-    c.one-more.ensures ∙ ap action_from (c.over.ensures ∙ ap (λ l. rule (map x l)) c.preconditions.ensures)
+    c.one_more.ensures ∙ ap action_from (c.over.ensures ∙ ap (λ l. rule (map x l)) c.preconditions.ensures)
     ∙ action_some rule (problem c.args.task.now) x c.args.number (action_of c.in-Some.action.now) c.in-Some.ensures
 
 pub returns-in-None : goal.returns-in-None

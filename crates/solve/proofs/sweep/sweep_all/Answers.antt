@@ -1,4 +1,4 @@
-use Rattle.std.proofs.Common.{◌≡◌, ℕ, ◌<◌, length, sym, ◌∙◌, subst}
+use Rattle.std.proofs.Common.{◌≡◌, ℕ, ◌<◌, length, ◌∙◌, subst}
 use Rattle.model.specs.Strips.{items}
 use Rattle.model.specs.Figures.{table, equations}
 use Rattle.model.proofs.Causal.{total}

@@ -1,5 +1,4 @@
-use Rattle.std.proofs.Common.{◌≡◌, length}
-use Rattle.model.specs.Strips.{items}
+use Rattle.std.proofs.Common.{length}
 use Rattle.model.specs.Figures.{table, equations}
 use Rattle.model.proofs.Causal.{total}
 use Rattle.strips.specs.Standing.{standing}

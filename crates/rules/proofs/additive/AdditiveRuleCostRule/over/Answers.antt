@@ -12,7 +12,7 @@ loop-item-init c =
 pub loop-item-preserved : goal.loop-item-preserved
 loop-item-preserved c =
     let d = at_drop_more (λ l. additive_rule (map (table c.args.figures.now) l)) c.args.items.now c.loop-item.item-index 0 c.loop-item-test.true in
-    omega (arith, d, c.loop-item.invariant, c.plus-sum.ensures, c.figure-at.ensures)
+    omega (arith, d, c.loop-item.invariant, c.plus-sum.ensures, c.figure_at.ensures)
 
 pub returns : goal.returns
 returns c =
