@@ -13,7 +13,7 @@ loop-item-init c = omega (arith, least_low (table c.args.figures.now) c.args.ite
 pub loop-item-preserved : goal.loop-item-preserved
 loop-item-preserved c =
     let d = at_drop_more (least (table c.args.figures.now)) c.args.items.now c.loop-item.item-index 0 c.loop-item-test.true in
-    omega (arith, d, c.loop-item.invariant, ap rank c.smaller-of-best.ensures, rank_smaller c.loop-item.best c.figure-at.result, ap rank c.figure-at.ensures)
+    omega (arith, d, c.loop-item.invariant, ap rank c.smaller_of-best.ensures, rank_smaller c.loop-item.best c.figure_at.result, ap rank c.figure_at.ensures)
 
 pub returns : goal.returns
 returns c =

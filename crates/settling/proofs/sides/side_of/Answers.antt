@@ -18,7 +18,7 @@ returns-then-item-facts g c = λ l.
     let p = problem c.args.base.now.task in
     let x = table c.args.figures.now in
     let low : c.args.item < p.facts = omega (arith, c.if-item-facts.true, c.from-facts.ensures, c.facts.ensures.is) in
-    c.one-more.ensures ∙ ap (λ v. cut (v + 1)) (c.least-of.ensures ∙ ap (least x) (c.adders.ensures ∙ l.adders c.args.item low))
+    c.one_more.ensures ∙ ap (λ v. cut (v + 1)) (c.least_of.ensures ∙ ap (least x) (c.adders.ensures ∙ l.adders c.args.item low))
     ∙ sym (at_added (g.R.CostRule.rule c.args.base.now.rule) p (standing c.args.state.now) x c.args.item low (sym c.stands.ensures ∙ c.if-stands.false))
 
 pub returns-in-Some : goal.returns-in-Some
@@ -31,7 +31,7 @@ returns-in-Some g c = λ l.
     let high : p.facts ≤ q = omega (arith, c.if-item-facts.false, c.from-facts.ensures, c.facts.ensures.is) in
     let r = nth_some p.actions (q - c.from-facts.result) (action_of c.in-Some.act.now) no_action c.in-Some.ensures in
     let same : c.preconditions.result.now ≡ (action p (q - p.facts)).pre = c.preconditions.ensures ∙ ap (λ z. z.pre) (sym r.1) ∙ ap (λ n. (action p n).pre) less in
-    c.one-more-in-Some.ensures ∙ ap (λ v. cut (v + 1)) (c.over.ensures ∙ ap (λ ps. rule (map x ps)) same)
+    c.one_more-in-Some.ensures ∙ ap (λ v. cut (v + 1)) (c.over.ensures ∙ ap (λ ps. rule (map x ps)) same)
     ∙ sym (at_action rule p (standing c.args.state.now) x q high (omega (arith, r.0, less, high)))
 
 pub returns-in-None : goal.returns-in-None

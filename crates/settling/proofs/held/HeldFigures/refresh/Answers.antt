@@ -17,7 +17,7 @@ returns-then-item-len g c =
     let held = vec_items h.figures in
     let right = vec_items h.sides in
     let q = c.args.item in
-    let side = c.side-of-side.result in
+    let side = c.side_of-side.result in
     let pairs = g.Q.Queue.pairs in
     let F = equations_of g.R.CostRule.rule c.args.base.now c.args.state.now in
     let within : q < length held = omega (arith, c.if-item-len.true, c.len.ensures, h.figures.ok.0) in
@@ -27,7 +27,7 @@ returns-then-item-len g c =
       held = refl;
       after = λ fit stale t.
           stale_more F held right (pairs h.queue) stale t q (set right q side) (pairs c.adjust.new.queue) side within long
-          (c.side-of-side.ensures fit.linked ∙ ap (λ l. F (table l) q) c.deref.ensures.value) refl
+          (c.side_of-side.ensures fit.linked ∙ ap (λ l. F (table l) q) c.deref.ensures.value) refl
           (c.adjust.ensures.after (omega (arith, within, t.room)) ∙ ap (λ f. set (pairs h.queue) q (due f side)) (get_or_read held q c.index.result.now within c.index.ensures None));
     }
 

@@ -47,21 +47,21 @@ returns-else-item-len g c =
     let p = problem base.task in
     let rule = g.R.CostRule.rule base.rule in
     let F = equations_of g.R.CostRule.rule base c.args.state.now in
-    let f = c.moved-from-after.result in
+    let f = c.moved_from-after.result in
     let within : q < length held = omega (arith, c.if-item-len.false, c.len.ensures, h.figures.ok.0) in
     let long : length right ≡ length held = omega (arith, h.level, h.figures.ok.0, h.sides.ok.0) in
     let before : c.index-before.result.now ≡ get_or held q None = get_or_read held q c.index-before.result.now within c.index-before.ensures None in
     let side : c.index-side.result.now ≡ get_or right q None = get_or_read right q c.index-side.result.now (omega (arith, within, long)) c.index-side.ensures None in
-    let next : f ≡ moved (get_or held q None) (get_or right q None) = c.moved-from-after.ensures ∙ ap₂ moved before side in
+    let next : f ≡ moved (get_or held q None) (get_or right q None) = c.moved_from-after.ensures ∙ ap₂ moved before side in
     record {
-      keeps = λ sd. c.refresh-all.ensures.keeps (c.adjust.ensures.keeps (e.keeps sd));
-      long = ap (λ v. vec_len v) c.refresh-all.ensures.held;
+      keeps = λ sd. c.refresh_all.ensures.keeps (c.adjust.ensures.keeps (e.keeps sd));
+      long = ap (λ v. vec_len v) c.refresh_all.ensures.held;
       after = λ sd fit k. record {
         step = subst (λ (v : Figure). Step F held q v) (sym next) (stepped F held right (pairs h.queue) k q m e.after.1 long (e.least sd));
         before = before;
-        after = ap vec_items c.refresh-all.ensures.held;
+        after = ap vec_items c.refresh_all.ensures.held;
         keeping =
-            c.refresh-all.ensures.after (record { linked = fit.linked; long = fit.long })
+            c.refresh_all.ensures.after (record { linked = fit.linked; long = fit.long })
             (turned F held right (pairs h.queue) (pairs c.take.new.self) (pairs c.adjust.new.queue) q f (names c.readers.result.now) within k e.after.2
             (c.adjust.ensures.after (omega (arith, within, k.room, ap length e.after.2 ∙ length-set (pairs h.queue) q option.None)) ∙ ap (λ v. set (pairs c.take.new.self) q (due f v)) side)
             (read_stale rule p (standing c.args.state.now) held q f c.readers.result.now
