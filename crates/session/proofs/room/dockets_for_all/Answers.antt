@@ -8,8 +8,8 @@ use Rattle.session.proofs.room.dockets_for_all.Goals as goal
 pub loop-call-preserved : goal.loop-call-preserved
 loop-call-preserved c =
     let d = at_drop_more settles c.args.calls.now c.loop-call.call-index (Enter 0) c.loop-call-test.true in (
-      omega (arith, c.loop-call.invariant.0, c.dockets-for-count.ensures, weight_low (get_or c.args.calls.now c.loop-call.call-index (Enter 0))),
-      omega (arith, d, c.loop-call.invariant.1, c.dockets-for-count.ensures),
+      omega (arith, c.loop-call.invariant.0, c.dockets_for-count.ensures, weight_low (get_or c.args.calls.now c.loop-call.call-index (Enter 0))),
+      omega (arith, d, c.loop-call.invariant.1, c.dockets_for-count.ensures),
     )
 
 pub returns : goal.returns

@@ -4,9 +4,9 @@ use Rattle.session.proofs.room.reserve.Goals as goal
 
 pub returns : goal.returns
 returns c =
-    let a = c.in-ok-answers.ensures in
+    let a = c.in_ok-answers.ensures in
     record {
       none_yet = a.items;
       places = omega (arith, a.capacity);
-      stocked = subst (λ n. Stocked n c.args.rows (vec_items c.in-ok-dockets.dockets)) c.dockets-for-all.ensures c.in-ok-dockets.ensures;
+      stocked = subst (λ n. Stocked n c.args.rows (vec_items c.in_ok-dockets.dockets)) c.dockets_for_all.ensures c.in_ok-dockets.ensures;
     }

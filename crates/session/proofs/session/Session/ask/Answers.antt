@@ -69,18 +69,18 @@ returns-in-Goal g c =
 pub returns-in-Some : goal.returns-in-Some
 returns-in-Some g c =
     let s = c.args.self.now in
-    let t = c.settle-on.new.self in
+    let t = c.settle_on.new.self in
     let rows = 2 * items (task_of s) in
     let ds = vec_items c.args.dockets.now in
     let es = vec_items c.pop.new.self in
     record {
-      base = c.settle-on.ensures.base;
-      keeps = c.settle-on.ensures.keeps;
+      base = c.settle_on.ensures.base;
+      keeps = c.settle_on.ensures.keeps;
       law =
-          subst (λ (k : CallValue). (n : ℕ) → Stocked (weight k + n) rows ds → Goes g.R.CostRule.rule g.Q.Queue.sound g.Q.Queue.pairs s (call_of k) (reply_of c.settle-on.result) t × Stocked n rows es) (sym c.in-Settle.is)
+          subst (λ (k : CallValue). (n : ℕ) → Stocked (weight k + n) rows ds → Goes g.R.CostRule.rule g.Q.Queue.sound g.Q.Queue.pairs s (call_of k) (reply_of c.settle_on.result) t × Stocked n rows es) (sym c.in-Settle.is)
           (λ n st.
           let r = stocked_less n rows ds es c.in-Some.docket (subst (λ m. Stocked m rows ds) (omega arith) st) c.in-Some.ensures.items in
-          (c.settle-on.ensures.law r.1, r.0));
+          (c.settle_on.ensures.law r.1, r.0));
     }
 
 pub returns-in-None : goal.returns-in-None

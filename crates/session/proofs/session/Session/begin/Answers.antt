@@ -14,10 +14,10 @@ both_true : (a b : Bool) → (a && b) ≡ true → (a ≡ true) × (b ≡ true)
 both_true true b e = (refl, e)
 both_true false b e = absurd (false≢true e)
 
-pub invariant-of-result : goal.invariant-of-result
-invariant-of-result g c =
+pub invariant_of-result : goal.invariant_of-result
+invariant_of-result g c =
     let n = items (problem c.args.base.task) in
-    (omega (arith, ap length c.in-Ok.ensures.held, length-replicate n None, c.in-Ok.held.figures.ok.0), tt)
+    record { long = omega (arith, ap length c.in-Ok.ensures.held, length-replicate n None, c.in-Ok.held.figures.ok.0) }
 
 pub returns-in-Ok : goal.returns-in-Ok
 returns-in-Ok g c =
@@ -26,7 +26,7 @@ returns-in-Ok g c =
     let pairs = g.Q.Queue.pairs c.args.queue in
     let fit = both_true (vacant pairs) (leb (items p) (length pairs)) c.requires.was_ready in
     record {
-      opens = record { was_ready = c.requires.was_ready; on_task = refl; by_rule = refl; facts = c.start-state-state.ensures; figures = e.held; settled = refl };
+      opens = record { was_ready = c.requires.was_ready; on_task = refl; by_rule = refl; facts = c.start_state-state.ensures; figures = e.held; settled = refl };
       led = λ sd. record {
         sound = record {
           queue = e.keeps sd;
@@ -34,7 +34,7 @@ returns-in-Ok g c =
           keeping = e.after c.requires.linked fit.0 (leb-true (items p) (length pairs) fit.1);
           solved = λ h. absurd (false≢true h);
         };
-        facts = c.start-state-state.ensures;
+        facts = c.start_state-state.ensures;
         settled = refl;
         shown = λ q. ap (λ l. table l q) e.held ∙ ap rank (nothing (items p) q);
       };

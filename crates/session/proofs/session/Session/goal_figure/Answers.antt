@@ -21,7 +21,7 @@ returns g c =
     let rule = g.R.CostRule.rule s.base.rule in
     let f = c.half.result in
     let rank_is : rank f ≡ goal_figure rule (task_of s) (table (figures_of s)) =
-    c.half.ensures ∙ ap halved (c.over.ensures ∙ ap₂ (λ (l : List Figure) (gs : List ℕ). rule (map (table l) gs)) c.as-slice.ensures c.goal.ensures) in
+    c.half.ensures ∙ ap halved (c.over.ensures ∙ ap₂ (λ (l : List Figure) (gs : List ℕ). rule (map (table l) gs)) c.as_slice.ensures c.goal.ensures) in
     let is : f ≡ figure_of (goal_figure rule (task_of s) (table (figures_of s))) = sym (figure_rank f) ∙ ap figure_of rank_is in
     let a : Ok f ≡ goal_answer g.R.CostRule.rule s = ap (λ (v : Figure). Ok v) is ∙ sym (cond-true _ _ _ c.if-not-self.false) in
     record { answer = a; law = goal_goes g.R.CostRule.rule g.Q.Queue.sound g.Q.Queue.pairs s (Ok f) a }

@@ -33,12 +33,12 @@ loop-call-preserved g c =
     let st : Stocked (weight k + settles rest) (2 * items (task_of u)) ds =
     subst (λ (b : Base g.row.R.Denot). Stocked (weight k + settles rest) (2 * items (problem b.task)) ds) (sym inv.2) (subst (λ m. Stocked m (2 * items (task_of s)) ds) cut inv.4) in
     let r = e.law (settles rest) st in (
-      omega (arith, inv.0, c.push-reserved.ensures.len),
-      omega (arith, inv.1, c.push-reserved.ensures.capacity),
+      omega (arith, inv.0, c.push_reserved.ensures.len),
+      omega (arith, inv.1, c.push_reserved.ensures.capacity),
       e.base ∙ inv.2,
       (λ sd. e.keeps (inv.3 sd)),
       subst (λ (b : Base g.row.R.Denot). Stocked (settles rest) (2 * items (problem b.task)) es) inv.2 r.1,
-      working_more g.R.CostRule.rule g.Q.Queue.sound g.Q.Queue.pairs s u t (take i calls) (take (i + 1) calls) (vec_items c.loop-call.answers) (vec_items c.push-reserved.new.self) k c.ask-one.result inv.2 (take_more calls i (Enter 0) c.loop-call-test.true) c.push-reserved.ensures.items inv.5 r.0,
+      working_more g.R.CostRule.rule g.Q.Queue.sound g.Q.Queue.pairs s u t (take i calls) (take (i + 1) calls) (vec_items c.loop-call.answers) (vec_items c.push_reserved.new.self) k c.ask-one.result inv.2 (take_more calls i (Enter 0) c.loop-call-test.true) c.push_reserved.ensures.items inv.5 r.0,
     )
 
 pub returns : goal.returns

@@ -6,11 +6,11 @@ use Rattle.session.specs.Sessions.{Sound, Settles, Docketing}
 use Rattle.session.proofs.Passing.{settle_goes}
 use Rattle.session.proofs.session.Session.settle.Goals as goal
 
-pub returns-then-docket-rows-needed : goal.returns-then-docket-rows-needed
-returns-then-docket-rows-needed g c =
+pub returns-then-docket-rows_needed : goal.returns-then-docket-rows_needed
+returns-then-docket-rows_needed g c =
     let s = c.args.self.now in
     let d = c.args.docket.now in
-    let a : Settles s s d d (Err DocketShort) = (omega (arith, c.if-docket-rows-needed.true, c.rows-needed.ensures), refl, refl, refl) in
+    let a : Settles s s d d (Err DocketShort) = (omega (arith, c.if-docket-rows_needed.true, c.rows_needed.ensures), refl, refl, refl) in
     record {
       answer = a;
       keeps = λ sd. sd;
@@ -25,7 +25,7 @@ returns g c =
     let e = c.settle-n.ensures in
     let n = c.settle-n.result in
     let last = c.settle-n.new.docket in
-    let enough : 2 * items (problem s.base.task) ≤ length d = omega (arith, c.if-docket-rows-needed.false, c.rows-needed.ensures) in
+    let enough : 2 * items (problem s.base.task) ≤ length d = omega (arith, c.if-docket-rows_needed.false, c.rows_needed.ensures) in
     let done = λ (sd : Sound g.R.CostRule.rule g.Q.Queue.sound g.Q.Queue.pairs s). e.after sd.queue (record { linked = sd.linked; long = s.long }) sd.keeping enough in
     record {
       answer = record { enough = enough; within = e.within; later = e.later; base = refl; state = refl; settled = refl };

@@ -16,14 +16,14 @@ returns-in-Ok g c =
     let last = c.settle.new.docket in
     let n = c.in-Ok.n in
     let rows : vec_items c.truncate-in-Ok.new.self ≡ take n last =
-    c.truncate-in-Ok.ensures.items ∙ ap (take n) (with_items_is c.truncate.new.self last (c.settle.auto.docket ∙ c.deref-mut.ensures.len)) in
+    c.truncate-in-Ok.ensures.items ∙ ap (take n) (with_items_is c.truncate.new.self last (c.settle.auto.docket ∙ c.deref_mut.ensures.len)) in
     record {
       base = e.answer.base;
       keeps = e.keeps;
       law = λ long.
           subst (λ (y : Reply). Goes g.R.CostRule.rule g.Q.Queue.sound g.Q.Queue.pairs s (settle c.args.rows) y t) (ap (λ l. wrote (map row_of l)) (sym rows))
-          (settle_goes g.R.CostRule.rule g.Q.Queue.sound g.Q.Queue.pairs s t e.keeps c.deref-mut.result.now last c.args.rows (Ok n) e.answer e.figures
-          (omega (arith, c.deref-mut.ensures.len, c.truncate.ensures.len)) (λ short. omega (arith, short, long, c.deref-mut.ensures.len, c.truncate.ensures.len)));
+          (settle_goes g.R.CostRule.rule g.Q.Queue.sound g.Q.Queue.pairs s t e.keeps c.deref_mut.result.now last c.args.rows (Ok n) e.answer e.figures
+          (omega (arith, c.deref_mut.ensures.len, c.truncate.ensures.len)) (λ short. omega (arith, short, long, c.deref_mut.ensures.len, c.truncate.ensures.len)));
     }
 
 pub returns-in-Err : goal.returns-in-Err
@@ -33,6 +33,6 @@ returns-in-Err g c =
       base = ap (λ v. v.base) e.answer.2;
       keeps = e.keeps;
       law = λ long.
-          settle_goes g.R.CostRule.rule g.Q.Queue.sound g.Q.Queue.pairs c.args.self.now c.settle.new.self e.keeps c.deref-mut.result.now c.settle.new.docket c.args.rows (Err c.in-Err.fault) e.answer e.figures
-          (omega (arith, c.deref-mut.ensures.len, c.truncate.ensures.len)) (λ short. omega (arith, short, long, c.deref-mut.ensures.len, c.truncate.ensures.len));
+          settle_goes g.R.CostRule.rule g.Q.Queue.sound g.Q.Queue.pairs c.args.self.now c.settle.new.self e.keeps c.deref_mut.result.now c.settle.new.docket c.args.rows (Err c.in-Err.fault) e.answer e.figures
+          (omega (arith, c.deref_mut.ensures.len, c.truncate.ensures.len)) (λ short. omega (arith, short, long, c.deref_mut.ensures.len, c.truncate.ensures.len));
     }
