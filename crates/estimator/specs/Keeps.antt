@@ -7,7 +7,7 @@
 --   Asked    what is kept after an ask
 --   Right    every kept figure is the function's
 --   Agreeing the inner estimator agrees, and what is kept is right
-use Rattle.std.specs.Prelude.{◌≡◌, ℕ, suc, ◌<◌, ◌⊎◌, List, [], ◌∷◌, ◌++◌, length, take, drop, Some, ◌≢◌}
+use Rattle.std.specs.Prelude.{◌≡◌, ℕ, suc, ◌<◌, ◌⊎◌, List, ◌∷◌, ◌++◌, length, take, drop, Some, ◌≢◌}
 use Rattle.std.specs.List.{AllByRecursion, slice_get}
 use Rattle.figure.specs.declared.figure.Figure.{Figure}
 use Rattle.figure.specs.Ranks.{rank}

@@ -1,10 +1,10 @@
 -- What an ending promises. Assumes nothing.
-use Rattle.std.proofs.Common.{◌≡◌, ℕ, ◌+◌, ◌<◌, ◌≤◌, List, length, Option, sym, refl, ap, ◌∙◌, subst, arith}
+use Rattle.std.proofs.Common.{◌≡◌, ℕ, ◌+◌, List, length, Option, ◌∙◌, subst, arith}
 use Rattle.model.specs.Strips.{State, Problem}
 use Rattle.queue.specs.declared.key.Pair.{Pair}
 use Rattle.rows.specs.declared.row.Row.{Row}
 use Rattle.search_theory.specs.Estimates.{Enough, States}
-use Rattle.search_theory.specs.Rows.{Rows, Recorded, Overflow, Told}
+use Rattle.search_theory.specs.Rows.{Rows, Recorded, Told}
 use Rattle.search_theory.proofs.Count.{room}
 use Rattle.search_law.specs.declared.outcome.Outcome.{Outcome}
 use Rattle.search_law.specs.declared.outcome.Outcome.TheVariants.{Plan as Planned, NoPlan, RowsFull}

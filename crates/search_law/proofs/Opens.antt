@@ -1,24 +1,24 @@
 -- A successor is recorded: the first row, a shorter way, or a new row. Assumes nothing.
-use Rattle.std.proofs.Common.{◌≡◌, ℕ, ◌+◌, ◌<◌, ◌≤◌, Bool, true, false, List, length, get_or, set, Some, None, Option, sym, refl, ap, ◌∙◌, subst, arith, length-set, get_or-set_same}
+use Rattle.std.proofs.Common.{◌≡◌, ℕ, ◌+◌, ◌<◌, ◌≤◌, true, List, length, get_or, set, Option, sym, refl, ap, ◌∙◌, subst, arith, length-set}
 use Rattle.figure.specs.declared.figure.Figure.{Figure}
 use Rattle.figure.specs.Ranks.{rank}
 use Rattle.model.specs.Strips.{State, Problem, May, step}
 use Rattle.strips.specs.declared.state.State.{State as Words}
 use Rattle.strips.specs.Standing.{standing}
 use Rattle.queue.specs.declared.key.Pair.{Pair}
-use Rattle.queue.specs.Queues.{at, vacant}
+use Rattle.queue.specs.Queues.{vacant}
 use Rattle.queue.proofs.Tables.{none_some, vacant_empty}
 use Rattle.rows.specs.declared.row.Row.{Row}
 use Rattle.rows.specs.Rows.{blank, fresh}
 use Rattle.rows.specs.Lookups.{Tree, Written}
 use Rattle.rows.proofs.Ways.{tree_set, tree_first}
 use Rattle.search_theory.specs.Estimates.{NoneShorter}
-use Rattle.search_theory.specs.Rows.{Recorded, Overflow, Told, Thrifty}
-use Rattle.search_theory.specs.Turns.{WithinTurn, Only, Reaches}
+use Rattle.search_theory.specs.Rows.{Told, Thrifty}
+use Rattle.search_theory.specs.Turns.{WithinTurn, Reaches}
 use Rattle.search_theory.proofs.Walk.{differ}
 use Rattle.search_theory.proofs.Turn.{split, no_better, better, new, starts, not_taken, ends}
 use Rattle.search_theory.proofs.Count.{falls_better, falls_new}
-use Rattle.search_law.specs.Views.{view, queued, key_of, key_at}
+use Rattle.search_law.specs.Views.{view, queued, key_of}
 use Rattle.search_law.specs.Boards.{board, enqueued, better_row, new_row, Standing, Turning, Overfull, Moves, Started}
 use Rattle.search_law.proofs.Keys.{one_key, enq_long}
 use Rattle.search_law.proofs.Writes.{Wrote, wrote, view_alike, keyed_alike, moves_alike}

@@ -1,7 +1,6 @@
 -- What recording a successor leaves. Assumes nothing.
-use Rattle.std.proofs.Common.{◌≡◌, ℕ, ◌+◌, ◌<◌, ◌≤◌, Bool, true, false, ltb, List, length, get_or, set, MatchBool, Option, sym, refl, ap, ◌∙◌, subst, arith, ltb-false, ltb-true, le-ltb, lt-ltb}
+use Rattle.std.proofs.Common.{◌≡◌, ℕ, ◌+◌, ◌<◌, ◌≤◌, Bool, true, false, ltb, List, length, get_or, set, MatchBool, Option, sym, refl, ◌∙◌, subst, arith, ltb-false, ltb-true, le-ltb, lt-ltb}
 use Rattle.std.proofs.lemmas.Option.{slice_get-get_or}
-use Rattle.figure.specs.Ranks.{rank}
 use Rattle.model.specs.Strips.{State, Problem, May, step}
 use Rattle.strips.specs.declared.state.State.{State as Words}
 use Rattle.strips.specs.Standing.{standing}

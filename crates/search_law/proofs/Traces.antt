@@ -1,5 +1,5 @@
 -- The way back from a row is written as a plan. Assumes nothing.
-use Rattle.std.proofs.Common.{◌≡◌, ℕ, zero, suc, ◌+◌, ◌-◌, ◌<◌, ◌≤◌, List, [], ◌∷◌, length, get_or, take, drop, set, sym, refl, ap, ◌∙◌, subst, arith, length-set, length-take-le, drop-cons, get_or-set_same, drop-set-lt}
+use Rattle.std.proofs.Common.{◌≡◌, ℕ, zero, suc, ◌-◌, ◌<◌, ◌≤◌, List, ◌∷◌, length, get_or, take, drop, set, sym, refl, ap, ◌∙◌, subst, arith, length-set, length-take-le, drop-cons, get_or-set_same, drop-set-lt}
 use lib.Seq.{take-set-lt}
 use Rattle.model.specs.Strips.{State, Problem, Plan}
 use Rattle.rows.specs.declared.row.Row.{Row}

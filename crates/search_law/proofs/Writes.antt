@@ -1,14 +1,14 @@
 -- A row is written and queued. Assumes nothing.
-use Rattle.std.proofs.Common.{◌≡◌, ℕ, ◌+◌, ◌<◌, ◌≤◌, Bool, true, false, List, length, get_or, set, is_some, Some, None, Option, sym, refl, ap, ◌∙◌, subst, arith, length-set, get_or-set_other, get_or-set_same}
+use Rattle.std.proofs.Common.{◌≡◌, ℕ, ◌<◌, ◌≤◌, List, length, get_or, set, is_some, Some, None, Option, sym, refl, ap, ◌∙◌, subst, arith, length-set, get_or-set_other, get_or-set_same}
 use mathlib.Core.Path.{fun_ext}
 use Rattle.figure.specs.Ranks.{rank}
 use Rattle.model.specs.Strips.{State, Problem}
 use Rattle.queue.specs.declared.key.Pair.{Pair}
 use Rattle.queue.specs.Queues.{at}
 use Rattle.rows.specs.declared.row.Row.{Row}
-use Rattle.rows.specs.Rows.{blank, bare}
+use Rattle.rows.specs.Rows.{blank}
 use Rattle.rows.specs.Lookups.{Alike}
-use Rattle.search_theory.specs.Rows.{Rows, Shut, Told, Thrifty}
+use Rattle.search_theory.specs.Rows.{Shut, Told, Thrifty}
 use Rattle.search_theory.specs.Turns.{Only}
 use Rattle.search_theory.specs.Measure.{potential}
 use Rattle.search_theory.proofs.Walk.{differ}
@@ -85,8 +85,8 @@ pub moves_refl : (p : Problem) (s : State) (v : State → ℕ) (A : Type 0) (row
 moves_refl p s v A rows t used le = record { more = omega arith; fits = le; long = refl; space = refl; rest = λ k _. refl; falls = omega arith; thrifty = λ h. h; told = λ _ h. h }
 
 module _ (p : Problem) (s : State) (v : State → ℕ) (A : Type 0) where
-  pub moves_alike : (first rows after : List Row) → Alike rows after → (t u : List (Option Pair)) (used n : ℕ) → ((k : ℕ) → n ≤ k → get_or after k blank ≡ get_or first k blank) → Moves p s v A (board first t used) (board rows u n) → Moves p s v A (board first t used) (board after u n)
-  moves_alike first rows after e t u used n rest m = record {
+  pub moves_alike : (first rows mended : List Row) → Alike rows mended → (t u : List (Option Pair)) (used n : ℕ) → ((k : ℕ) → n ≤ k → get_or mended k blank ≡ get_or first k blank) → Moves p s v A (board first t used) (board rows u n) → Moves p s v A (board first t used) (board mended u n)
+  moves_alike first rows mended e t u used n rest m = record {
     more = m.more;
     fits = m.fits;
     long = e.long ∙ m.long;

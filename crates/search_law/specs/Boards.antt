@@ -10,7 +10,7 @@
 --   Depth      how many rows a row is away from the first
 --   way_back   the actions that lead from the first row to a row
 --   Ran        what a search has done when it ends
-use Rattle.std.specs.Prelude.{◌≡◌, ℕ, zero, suc, ◌+◌, ◌<◌, ◌≤◌, List, [], ◌∷◌, length, get_or, Some, None, MatchBool, Option, nat_lt, slice_index_or, slice_set}
+use Rattle.std.specs.Prelude.{◌≡◌, ℕ, zero, suc, ◌+◌, ◌<◌, ◌≤◌, List, ◌∷◌, length, get_or, Some, None, MatchBool, Option, nat_lt, slice_index_or, slice_set}
 use Rattle.figure.specs.declared.figure.Figure.{Figure}
 use Rattle.figure.specs.Ranks.{rank}
 use Rattle.model.specs.Strips.{State, Problem}

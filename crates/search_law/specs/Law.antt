@@ -10,7 +10,7 @@
 --   Searched     the whole promise of a search
 --
 -- Agrees says that the estimator agrees with its function v, Sound that the queue is sound.
-use Rattle.std.specs.Prelude.{◌≡◌, ℕ, ◌<◌, ◌≤◌, Bool, true, false, List, [], ◌∷◌, length, take, drop, replicate, Some, None, Ok, Err, Result, ◌≢◌, slice_index_or}
+use Rattle.std.specs.Prelude.{◌≡◌, ℕ, ◌<◌, ◌≤◌, true, false, List, [], ◌∷◌, length, take, drop, replicate, Some, None, Ok, Err, Result, ◌≢◌, slice_index_or}
 use Rattle.figure.specs.Ranks.{top}
 use Rattle.model.specs.Strips.{State, Problem, Goal, Plan, Reachable}
 use Rattle.queue.specs.declared.key.Pair.{Pair}

@@ -3,7 +3,7 @@
 --   view     the rows as the theory has them
 --   key_of   the key that a row is queued under, if it is
 --   queued   which rows are queued
-use Rattle.std.specs.Prelude.{◌≡◌, ℕ, ◌+◌, List, get_or, Some, None, Option, slice_index_or}
+use Rattle.std.specs.Prelude.{ℕ, ◌+◌, List, get_or, Some, None, Option, slice_index_or}
 use Rattle.figure.specs.declared.figure.Figure.{Figure}
 use Rattle.figure.specs.declared.figure.Figure.TheVariants.{None as Never, Number}
 use Rattle.figure.specs.Ranks.{rank}

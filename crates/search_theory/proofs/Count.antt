@@ -8,7 +8,7 @@ use native.Mathlib.Decide.{ℕ_discrete, dec_lt}
 use lib.Dec.{ltb}
 use borrow.Author.Tests.{lt-ltb, le-ltb}
 use Rattle.model.specs.Strips.{State, Problem, May, step, Path, after, Reachable}
-use Rattle.search_theory.specs.Rows.{Rows, Queued, Recorded, Overflow}
+use Rattle.search_theory.specs.Rows.{Rows, Queued}
 use Rattle.search_theory.specs.Frontiers.{Room}
 use Rattle.search_theory.specs.Turns.{Only}
 use Rattle.search_theory.specs.Measure.{weight, sum_to, potential, FallsTaken, FallsBetter, FallsNew}

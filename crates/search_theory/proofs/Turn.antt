@@ -1,14 +1,13 @@
 -- What a turn of the search keeps. Assumes nothing.
 use mathlib.Core.Path.{◌≡◌, refl, sym, ap, subst, subst₂, ◌∙◌}
-use mathlib.Core.Bool.{Bool, true, false}
+use mathlib.Core.Bool.{true, false}
 use Prim.Native.Nat.{ℕ, ◌+◌, ◌<◌, ◌≤◌}
 use native.Mathlib.Omega.{arith}
 use native.Mathlib.Decide.{ℕ_discrete, dec_lt}
-use lib.ListN.{length}
 use Rattle.figure.specs.Ranks.{top}
 use Rattle.model.specs.Strips.{State, Problem, May, step, Goal}
-use Rattle.search_theory.specs.Rows.{Entry, Rows, Holds, At, Came, Closed, Recorded, Met, Queued, Shut, Kept}
-use Rattle.search_theory.specs.Turns.{WithinTurn, Only, marked, Takes, Reaches, Begins, NotTaken, NoBetter, Better, New, Ends, Starts}
+use Rattle.search_theory.specs.Rows.{Entry, Rows, At, Came, Closed, Met, Queued, Shut}
+use Rattle.search_theory.specs.Turns.{WithinTurn, marked, Reaches, Begins, NotTaken, NoBetter, Better, New, Ends, Starts}
 use Rattle.search_theory.proofs.Walk.{differ}
 
 -- u has the rows of r, none of them in more steps

@@ -1,16 +1,16 @@
 -- A plan is walked along the rows, up to the first that is queued. Assumes nothing.
-use mathlib.Core.Path.{◌≡◌, refl, sym, ap, subst, ◌∙◌}
+use mathlib.Core.Path.{◌≡◌, refl, sym, subst}
 use mathlib.Core.Logic.{◌⊎◌, inl, inr, ⊎_elim}
 use mathlib.Core.Bool.{Bool, true, false}
 use mathlib.Core.List.{List, [], ◌∷◌}
 use Prim.Native.Nat.{ℕ, zero, suc, ◌+◌, ◌<◌, ◌≤◌}
 use native.Mathlib.Omega.{arith}
 use lib.ListN.{length}
-use Rattle.model.specs.Strips.{State, Problem, May, step, Goal, Path, after, Plan, Reachable}
+use Rattle.model.specs.Strips.{State, Problem, Goal, Path, after, Plan}
 use Rattle.model.specs.Heuristics.{AtMost}
 use Rattle.search_theory.specs.Estimates.{AdmissibleOn, HasNoPlan, NoneShorter}
-use Rattle.search_theory.specs.Rows.{Rows, At, Came, Closed, Recorded, Queued, Kept, Told}
-use Rattle.search_theory.specs.Frontiers.{Ahead, Least, Frontier, NoneLeft, Taken, Found, Reached}
+use Rattle.search_theory.specs.Rows.{Rows, Closed, Recorded, Queued, Kept, Told}
+use Rattle.search_theory.specs.Frontiers.{Ahead, Least, Found, Reached}
 
 pub either : (b : Bool) → (b ≡ true) ⊎ (b ≡ false)
 either true = inl refl

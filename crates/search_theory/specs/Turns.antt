@@ -5,7 +5,7 @@
 --   Takes         a row is taken from the queue and opened
 --   Reaches       a row gets the successor of another
 --   Starts, Begins, NotTaken, NoBetter, Better, New, Ends   the theorems, in the order of a search
-use Rattle.std.specs.Prelude.{◌≡◌, true, false, ℕ, ◌+◌, ◌<◌, ◌≤◌, length}
+use Rattle.std.specs.Prelude.{◌≡◌, true, false, ℕ, ◌+◌, ◌<◌, length}
 use Rattle.model.specs.Strips.{State, Problem, May, step, Goal}
 use Rattle.search_theory.specs.Rows.{Entry, Rows, At, Closed, Recorded, Met, Queued, Shut, Kept}
 

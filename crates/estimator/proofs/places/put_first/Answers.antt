@@ -1,4 +1,4 @@
-use Rattle.std.proofs.Common.{◌≡◌, ℕ, suc, ◌+◌, ◌<◌, [], ◌∷◌, ◌++◌, length, get_or, take, drop, set, sym, refl, ap, ◌∙◌, subst, arith, drop-set-lt}
+use Rattle.std.proofs.Common.{◌≡◌, suc, ◌+◌, ◌<◌, [], ◌∷◌, ◌++◌, length, get_or, take, drop, sym, ap, ◌∙◌, arith, drop-set-lt}
 use Rattle.std.proofs.lemmas.List.{take_more, take_more_set, drop_more, take-append-drop}
 use Rattle.estimator.proofs.Fronts.{get_d_any}
 use Rattle.estimator.proofs.places.put_first.Goals as goal

@@ -1,4 +1,4 @@
-use Rattle.std.proofs.Common.{◌≡◌, ℕ, ◌<◌, ◌⊎◌, length, get_or, set, sym, ap, ◌∙◌, subst, arith, length-set, get_or-set_other}
+use Rattle.std.proofs.Common.{◌≡◌, ◌<◌, ◌⊎◌, length, get_or, set, sym, ap, ◌∙◌, subst, arith, length-set, get_or-set_other}
 use Rattle.strips.specs.Standing.{standing}
 use Rattle.rows.specs.Rows.{blank, bare}
 use Rattle.rows.specs.Lookups.{Numbers, Leaf, linked, Written}
@@ -18,6 +18,6 @@ returns c =
     let inside : under < length mid = simp length-set (omega (arith, c.if-under-number.false, c.if-number-rows.false)) in
     let is : x ≡ get_or rows under blank = read mid under x inside c.index-rows-under.is ∙ get_or-set_other rows used under (bare row) blank (λ e. omega (arith, c.if-under-number.false)) in
     record {
-      fitting = λ _. subst (Written rows under used row) (ap (λ w. set mid under w) (sym (c.link-to.ensures ∙ ap (λ w. linked w (standing row.state) f used) is))) (hung_written rows under used row f nums (subst (λ w. (f ≡ w.fact) ⊎ Leaf w) is c.branch-fact.ensures));
+      fitting = λ _. subst (Written rows under used row) (ap (λ w. set mid under w) (sym (c.link_to.ensures ∙ ap (λ w. linked w (standing row.state) f used) is))) (hung_written rows under used row f nums (subst (λ w. (f ≡ w.fact) ⊎ Leaf w) is c.branch-fact.ensures));
       unfit = λ no. absurd (no nums);
     }

@@ -1,6 +1,5 @@
-use Rattle.std.proofs.Common.{ℕ, ◌<◌, length, refl, inl, inr, arith}
+use Rattle.std.proofs.Common.{◌<◌, length, refl, inl, inr, arith}
 use Rattle.std.proofs.lemmas.Option.{slice_get-get_or}
-use Rattle.strips.specs.Standing.{standing}
 use Rattle.estimator.specs.Keeps.{kept}
 use Rattle.estimator.proofs.Asks.{again, first_time, again_figure, again_right, first_right, right_same}
 use Rattle.estimator.proofs.keeps.KeepingEstimator.estimate.Goals as goal
@@ -13,7 +12,7 @@ returns-in-Some g c =
     let p = c.in-Some.ensures in
     let x = c.index-self-at.result in
     let lt : at < length k.slots = omega (arith, p.0, k.few, k.whole) in
-    let a = again k.slots c.put-first.new.slots k.count at state _ (omega (arith, k.few, k.whole)) p.0 p.1 (slice_get-get_or k.slots at x lt) c.put-first.ensures in
+    let a = again k.slots c.put_first.new.slots k.count at state _ (omega (arith, k.few, k.whole)) p.0 p.1 (slice_get-get_or k.slots at x lt) c.put_first.ensures in
     let v = g.E.Estimator.value k.inner in
     record {
       figure = λ h. again_figure v (kept k) _ state _ h.right a;
@@ -28,8 +27,8 @@ returns g c =
     let f = c.estimate-figure.result in
     let est = c.estimate-figure.ensures in
     let at = c.min-at.result in
-    let new = c.in-default.ensures in
-    let a = first_time k.slots c.put-first-2.new.slots k.count at state f k.whole k.few c.min-at.ensures new c.put-first-2.ensures in
+    let new = c.in_default.ensures in
+    let a = first_time k.slots c.put_first-2.new.slots k.count at state f k.whole k.few c.min-at.ensures new c.put_first-2.ensures in
     let v = g.E.Estimator.value k.inner in
     record {
       figure = λ h. est.figure h.inner;

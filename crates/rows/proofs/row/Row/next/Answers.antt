@@ -1,4 +1,4 @@
-use Rattle.std.proofs.Common.{◌≡◌, cond, sym, ap, ◌∙◌}
+use Rattle.std.proofs.Common.{cond, sym, ap, ◌∙◌}
 use Rattle.rows.specs.Lookups.{link}
 use Rattle.rows.proofs.row.Row.next.Goals as goal
 
