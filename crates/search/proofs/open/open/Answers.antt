@@ -1,6 +1,5 @@
-use Rattle.std.proofs.Common.{◌≡◌, ◌+◌, length, sym, refl, ◌∙◌, subst, arith}
+use Rattle.std.proofs.Common.{◌≡◌, ◌+◌, length, sym, refl, subst, arith}
 use Rattle.strips.specs.Tasks.{problem}
-use Rattle.estimator.specs.Meanings.{Leaves}
 use Rattle.search_law.specs.Boards.{board, first, Turning, Overfull, Moves}
 use Rattle.search_law.proofs.Writes.{moves_refl, moves_trans}
 use Rattle.search_law.proofs.Opens.{turn_ends}
@@ -16,7 +15,7 @@ successor-requires g c =
     let m = c.loop-action.invariant.0 in
     record {
       turn = subst (λ s. Turning (problem c.args.task.now) s (board c.loop-action.rows (g.Q.Queue.pairs c.loop-action.queue) c.loop-action.used) c.args.i c.loop-action.action) (sym m.turn.base.start) m;
-      few = omega (arith, c.action-count-action-end.ensures.few, c.loop-action-test.true);
+      few = omega (arith, c.action_count-action-end.ensures.few, c.loop-action-test.true);
     }
 
 pub returns-then-not-successor : goal.returns-then-not-successor
@@ -52,5 +51,5 @@ pub returns : goal.returns
 returns g c =
     let inv = c.loop-action.invariant in
     let p = problem c.args.task.now in
-    let end : c.loop-action.action ≡ length p.actions = omega (arith, c.loop-action-test.false, c.loop-action.auto.action-end, c.action-count-action-end.ensures.is) in
+    let end : c.loop-action.action ≡ length p.actions = omega (arith, c.loop-action-test.false, c.loop-action.auto.action-end, c.action_count-action-end.ensures.is) in
     record { turn = turn_ends p (first c.args.rows.now) c.loop-action.rows (g.Q.Queue.pairs c.loop-action.queue) c.loop-action.used c.args.i c.loop-action.action end inv.0; moves = inv.1; leaves = inv.2; keeps = inv.3 }

@@ -1,4 +1,4 @@
-use Rattle.std.proofs.Common.{◌≡◌, ◌+◌, ◌<◌, ◌≤◌, get_or, set, sym, ap, ◌∙◌, arith}
+use Rattle.std.proofs.Common.{◌+◌, get_or, set, ap, ◌∙◌, arith}
 use Rattle.rows.specs.Rows.{blank}
 use Rattle.rows.proofs.Ways.{read}
 use Rattle.search_law.specs.Views.{key_of}
@@ -6,8 +6,8 @@ use Rattle.search_law.specs.Boards.{enqueued}
 use Rattle.search_law.proofs.Successors.{any, shortened_yes, shortened_no}
 use Rattle.search.proofs.open.shorten.Goals as goal
 
-pub overflow-add-steps : goal.overflow-add-steps
-overflow-add-steps g c = omega (arith, ap (λ w. w.steps) (any c.args.rows.now c.args.from c.index-rows-from.result c.requires.rows.0), c.requires.small.2)
+pub overflow_add-steps : goal.overflow_add-steps
+overflow_add-steps g c = omega (arith, ap (λ w. w.steps) (any c.args.rows.now c.args.from c.index-rows-from.result c.requires.rows.0), c.requires.small.2)
 
 pub enqueue-requires : goal.enqueue-requires
 enqueue-requires g c =

@@ -16,5 +16,5 @@ loop-preserved g c =
 
 pub returns : goal.returns
 returns g c =
-    let h = c.in-default.ensures in
+    let h = c.in_default.ensures in
     record { keeps = λ s. h.keeps (c.loop.invariant.0 s); after = h.after.1 ∙ vacant_fresh _ h.after.0 ∙ ap (λ n. replicate n None) c.loop.invariant.1 }

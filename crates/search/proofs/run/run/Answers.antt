@@ -1,15 +1,14 @@
-use Rattle.std.proofs.Common.{◌≡◌, ℕ, ◌+◌, ◌<◌, ◌≤◌, List, [], length, get_or, take, drop, set, None, sym, refl, ap, ◌∙◌, subst, arith, length-set}
+use Rattle.std.proofs.Common.{◌<◌, ◌≤◌, [], length, get_or, drop, set, None, sym, refl, ap, ◌∙◌, subst, arith, length-set}
 use Rattle.std.proofs.lemmas.Bool.Decides.{not_from_Decides}
 use Rattle.model.specs.Strips.{Goal, Plan}
 use Rattle.strips.specs.Standing.{standing}
 use Rattle.strips.specs.Tasks.{problem}
-use Rattle.rows.specs.Rows.{blank}
 use Rattle.search_theory.specs.Rows.{Told}
 use Rattle.search_theory.specs.Measure.{potential}
 use Rattle.search_law.specs.Views.{view, queued}
 use Rattle.search_law.specs.Boards.{board, first, Turning, Standing, Overfull, Moves}
 use Rattle.search_law.proofs.Successors.{any}
-use Rattle.search_law.proofs.Takes.{opened_row, taken_within, in_rows, goal_taken, taken_short, all_opened, nothing_left, NowOpen, now_open}
+use Rattle.search_law.proofs.Takes.{opened_row, taken_within, in_rows, goal_taken, taken_short, all_opened, nothing_left, now_open}
 use Rattle.search_law.proofs.Traces.{back_plan, came_facts}
 use Rattle.search_law.proofs.Endings.{told_like}
 use Rattle.search.proofs.Leaving.{leaves_trans}
@@ -26,7 +25,7 @@ returns g c =
     let rows = c.loop-taken.rows in
     let used = c.loop-taken.used in
     let inv = c.loop-taken.invariant in
-    let h = c.in-default.ensures in
+    let h = c.in_default.ensures in
     let law = g.met.E.Estimator.admissible c.args.est.now p c.requires.fits in
     let empty = h.after.0 in
     record {
@@ -49,8 +48,8 @@ returns g c =
       keeps = λ k. h.keeps (inv.7 k);
     }
 
-pub offset-bounds-rows-i : goal.offset-bounds-rows-i
-offset-bounds-rows-i g c = let m = c.loop-taken.invariant.0 in omega (arith, (m.sized.keyed c.in-Some.taken.0 c.in-Some.taken.1 c.in-Some.ensures.after.1).0, m.sized.tree.fits, m.sized.small)
+pub offset_bounds-rows-i : goal.offset_bounds-rows-i
+offset_bounds-rows-i g c = let m = c.loop-taken.invariant.0 in omega (arith, (m.sized.keyed c.in-Some.taken.0 c.in-Some.taken.1 c.in-Some.ensures.after.1).0, m.sized.tree.fits, m.sized.small)
 
 pub bounds-rows-i : goal.bounds-rows-i
 bounds-rows-i g c = let m = c.loop-taken.invariant.0 in omega (arith, (m.sized.keyed c.in-Some.taken.0 c.in-Some.taken.1 c.in-Some.ensures.after.1).0, m.sized.tree.fits)
@@ -58,14 +57,14 @@ bounds-rows-i g c = let m = c.loop-taken.invariant.0 in omega (arith, (m.sized.k
 pub bounds-rows-i-in-Some : goal.bounds-rows-i-in-Some
 bounds-rows-i-in-Some g c = let m = c.loop-taken.invariant.0 in omega (arith, (m.sized.keyed c.in-Some.taken.0 c.in-Some.taken.1 c.in-Some.ensures.after.1).0, m.sized.tree.fits)
 
-pub offset-bounds-rows-i-in-Some : goal.offset-bounds-rows-i-in-Some
-offset-bounds-rows-i-in-Some g c = let m = c.loop-taken.invariant.0 in omega (arith, (m.sized.keyed c.in-Some.taken.0 c.in-Some.taken.1 c.in-Some.ensures.after.1).0, m.sized.tree.fits, m.sized.small)
+pub offset_bounds-rows-i-in-Some : goal.offset_bounds-rows-i-in-Some
+offset_bounds-rows-i-in-Some g c = let m = c.loop-taken.invariant.0 in omega (arith, (m.sized.keyed c.in-Some.taken.0 c.in-Some.taken.1 c.in-Some.ensures.after.1).0, m.sized.tree.fits, m.sized.small)
 
-pub bounds-rows-i-else-has-goal : goal.bounds-rows-i-else-has-goal
-bounds-rows-i-else-has-goal g c = let m = c.loop-taken.invariant.0 in omega (arith, (m.sized.keyed c.in-Some.taken.0 c.in-Some.taken.1 c.in-Some.ensures.after.1).0, m.sized.tree.fits)
+pub bounds-rows-i-else-has_goal : goal.bounds-rows-i-else-has_goal
+bounds-rows-i-else-has_goal g c = let m = c.loop-taken.invariant.0 in omega (arith, (m.sized.keyed c.in-Some.taken.0 c.in-Some.taken.1 c.in-Some.ensures.after.1).0, m.sized.tree.fits)
 
-pub bounds-rows-i-else-has-goal-2 : goal.bounds-rows-i-else-has-goal-2
-bounds-rows-i-else-has-goal-2 g c = let m = c.loop-taken.invariant.0 in omega (arith, (m.sized.keyed c.in-Some.taken.0 c.in-Some.taken.1 c.in-Some.ensures.after.1).0, m.sized.tree.fits)
+pub bounds-rows-i-else-has_goal-2 : goal.bounds-rows-i-else-has_goal-2
+bounds-rows-i-else-has_goal-2 g c = let m = c.loop-taken.invariant.0 in omega (arith, (m.sized.keyed c.in-Some.taken.0 c.in-Some.taken.1 c.in-Some.ensures.after.1).0, m.sized.tree.fits)
 
 pub depth-length-requires : goal.depth-length-requires
 depth-length-requires g c =
@@ -84,8 +83,8 @@ trace-requires g c =
       room = omega (arith, c.depth-length.ensures.low, m.kept.base.low c.in-Some.taken.0 lt, m.sized.tree.fits, c.loop-taken.auto.rows, c.loop-taken.auto.steps, c.requires.room);
     }
 
-pub returns-then-has-goal : goal.returns-then-has-goal
-returns-then-has-goal g c =
+pub returns-then-has_goal : goal.returns-then-has_goal
+returns-then-has_goal g c =
     let p = problem c.args.task.now in
     let s = first c.args.rows.now in
     let rows = c.loop-taken.rows in
@@ -100,7 +99,7 @@ returns-then-has-goal g c =
     let v = g.E.Estimator.value c.args.est.now in
     let lt = taken_within p s rows t used i k inv.0 h.after.1 in
     let e = any rows i c.index-rows-i.result (in_rows p s rows t used i k inv.0 h.after.1) in
-    let goal = subst (λ w. Goal p (standing w.state)) e (c.has-goal.ensures.0 c.if-has-goal.true) in
+    let goal = subst (λ w. Goal p (standing w.state)) e (c.has_goal.ensures.0 c.if-has_goal.true) in
     let low = inv.0.kept.base.low i lt in
     record {
       ran = record {
@@ -139,7 +138,7 @@ open-requires g c =
     let e = any rows i c.index-rows-i.result inside in
     let f = any rows i c.index-rows-i-in-Some.result inside in
     let mid = set rows i (opened_row (get_or rows i c.index-rows-i-in-Some.result)) in
-    let short = subst (λ w. Goal p (standing w.state) → ⊥) e (not_from_Decides _ c.has-goal.ensures c.if-has-goal.false) in
+    let short = subst (λ w. Goal p (standing w.state) → ⊥) e (not_from_Decides _ c.has_goal.ensures c.if-has_goal.false) in
     let o = now_open p s rows t used i k inv.0 h.after.1 short mid (g.Q.Queue.pairs c.take.new.self) (ap (λ w. set rows i (opened_row w)) f) h.after.2 in
     record { turn = subst (λ z. Turning p z (board mid (g.Q.Queue.pairs c.take.new.self) used) i 0) (sym o.turn.turn.base.start) o.turn }
 
@@ -159,7 +158,7 @@ returns-then-not-open g c =
     let f = any rows i c.index-rows-i-in-Some.result inside in
     let mid = set rows i (opened_row (get_or rows i c.index-rows-i-in-Some.result)) in
     let u = g.Q.Queue.pairs c.take.new.self in
-    let short = subst (λ w. Goal p (standing w.state) → ⊥) e (not_from_Decides _ c.has-goal.ensures c.if-has-goal.false) in
+    let short = subst (λ w. Goal p (standing w.state) → ⊥) e (not_from_Decides _ c.has_goal.ensures c.if-has_goal.false) in
     let o = now_open p s rows t used i k inv.0 h.after.1 short mid u (ap (λ w. set rows i (opened_row w)) f) h.after.2 in
     let x = c.if-not-open.ensures in
     let start = o.turn.turn.base.start in
@@ -203,7 +202,7 @@ loop-taken-preserved g c =
     let f = any rows i c.index-rows-i-in-Some.result inside in
     let mid = set rows i (opened_row (get_or rows i c.index-rows-i-in-Some.result)) in
     let u = g.Q.Queue.pairs c.take.new.self in
-    let short = subst (λ w. Goal p (standing w.state) → ⊥) e (not_from_Decides _ c.has-goal.ensures c.if-has-goal.false) in
+    let short = subst (λ w. Goal p (standing w.state) → ⊥) e (not_from_Decides _ c.has_goal.ensures c.if-has_goal.false) in
     let o = now_open p s rows t used i k inv.0 h.after.1 short mid u (ap (λ w. set rows i (opened_row w)) f) h.after.2 in
     let x = c.if-not-open.ensures in
     let start = o.turn.turn.base.start in
@@ -242,7 +241,7 @@ loop-taken-smaller g c =
     let f = any rows i c.index-rows-i-in-Some.result inside in
     let mid = set rows i (opened_row (get_or rows i c.index-rows-i-in-Some.result)) in
     let u = g.Q.Queue.pairs c.take.new.self in
-    let short = subst (λ w. Goal p (standing w.state) → ⊥) e (not_from_Decides _ c.has-goal.ensures c.if-has-goal.false) in
+    let short = subst (λ w. Goal p (standing w.state) → ⊥) e (not_from_Decides _ c.has_goal.ensures c.if-has_goal.false) in
     let o = now_open p s rows t used i k inv.0 h.after.1 short mid u (ap (λ w. set rows i (opened_row w)) f) h.after.2 in
     let x = c.if-not-open.ensures in
     let start = o.turn.turn.base.start in

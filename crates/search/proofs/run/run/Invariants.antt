@@ -1,4 +1,4 @@
-use Rattle.std.proofs.Common.{◌≡◌, ℕ, ◌<◌, ◌≤◌, length, get_or}
+use Rattle.std.proofs.Common.{◌≡◌, ℕ, ◌≤◌, length, get_or}
 use Rattle.strips.specs.Tasks.{problem}
 use Rattle.rows.specs.Rows.{blank}
 use Rattle.search_theory.specs.Rows.{Told, Thrifty}

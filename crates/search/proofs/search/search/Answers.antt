@@ -1,21 +1,19 @@
-use Rattle.std.proofs.Common.{◌≡◌, ℕ, ◌<◌, ◌≤◌, length, set, replicate, None, sym, refl, ap, ◌∙◌, subst, arith, length-set}
+use Rattle.std.proofs.Common.{◌≡◌, replicate, None, sym, refl, ap, ◌∙◌, subst, arith}
 use Rattle.strips.specs.Standing.{standing}
 use Rattle.strips.specs.Tasks.{problem}
-use Rattle.rows.specs.Rows.{fresh}
 use Rattle.search_theory.specs.Rows.{Told, Thrifty}
 use Rattle.search_theory.proofs.Walk.{reached}
-use Rattle.search_law.specs.Views.{view, key_of}
+use Rattle.search_law.specs.Views.{view}
 use Rattle.search_law.specs.Refusals.{memory}
 use Rattle.search_law.specs.Law.{used_of}
-use Rattle.search_law.specs.Boards.{board, first, enqueued, Standing, Ran}
-use Rattle.search_law.proofs.Keys.{enq_long}
+use Rattle.search_law.specs.Boards.{board, first, Standing, Ran}
 use Rattle.search_law.proofs.Opens.{begun}
 use Rattle.search_law.proofs.Endings.{never_full, says_map, told_like}
 use Rattle.search.proofs.Leaving.{leaves_trans}
 use Rattle.search.proofs.search.search.Goals as goal
 
 pub begin-requires : goal.begin-requires
-begin-requires g c = let a = c.in-default.ensures in record { some = omega (arith, a.rows.some); space = a.queue.space }
+begin-requires g c = let a = c.in_default.ensures in record { some = omega (arith, a.rows.some); space = a.queue.space }
 
 pub run-outcome-requires : goal.run-outcome-requires
 run-outcome-requires g c =
@@ -26,7 +24,7 @@ run-outcome-requires g c =
     let e0 = c.args.est.now in
     let e1 = c.begin.new.est in
     let v = g.E.Estimator.value in
-    let a = c.in-default.ensures in
+    let a = c.in_default.ensures in
     let b = begun p start (v e0) (g.E.Estimator.agrees e0) rows c.begin.new.rows t (g.Q.Queue.pairs c.begin.new.queue) a.queue.empty (omega (arith, a.rows.some)) a.rows.few a.queue.space c.begin.ensures.after in
     let is : first c.begin.new.rows ≡ standing start = b.stands.kept.base.start in
     record {
@@ -54,7 +52,7 @@ returns g c =
     let e0 = c.args.est.now in
     let e1 = c.begin.new.est in
     let v = g.E.Estimator.value in
-    let a = c.in-default.ensures in
+    let a = c.in_default.ensures in
     let b = begun p start (v e0) (g.E.Estimator.agrees e0) rows c.begin.new.rows t (g.Q.Queue.pairs c.begin.new.queue) a.queue.empty (omega (arith, a.rows.some)) a.rows.few a.queue.space c.begin.ensures.after in
     let is : first c.begin.new.rows ≡ standing start = b.stands.kept.base.start in
     let d = c.empty.ensures in

@@ -1,4 +1,4 @@
-use Rattle.std.proofs.Common.{◌≡◌, ℕ, suc, ◌+◌, ◌<◌, ◌≤◌, length, get_or, sym, refl, ap, subst, arith}
+use Rattle.std.proofs.Common.{◌≡◌, ℕ, suc, ◌+◌, ◌<◌, ◌≤◌, get_or, sym, subst, arith}
 use Rattle.rows.specs.Rows.{blank}
 use Rattle.search_law.specs.Boards.{Depth}
 use Rattle.search_law.proofs.Successors.{any}
@@ -7,8 +7,8 @@ use Rattle.search.proofs.trace.depth.Goals as goal
 pub loop-i-init : goal.loop-i-init
 loop-i-init c = (c.requires.fits.0, λ m d. subst (λ n. Depth c.args.rows.now n c.args.row) (omega arith) d, omega arith)
 
-pub overflow-add-n : goal.overflow-add-n
-overflow-add-n c =
+pub overflow_add-n : goal.overflow_add-n
+overflow_add-n c =
     let i = c.loop-i.i in
     let inv = c.loop-i.invariant in
     let h = c.requires.came i (omega (arith, c.loop-i-test.true)) inv.0 in

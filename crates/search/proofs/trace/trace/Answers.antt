@@ -1,4 +1,4 @@
-use Rattle.std.proofs.Common.{◌≡◌, ℕ, ◌-◌, ◌<◌, ◌≤◌, [], ◌∷◌, length, get_or, take, drop, set, sym, refl, ap, ◌∙◌, subst₂, arith, length-set, length-take-le, drop-set-lt}
+use Rattle.std.proofs.Common.{◌≡◌, ◌-◌, ◌<◌, ◌≤◌, [], length, get_or, take, drop, set, sym, refl, ap, ◌∙◌, subst₂, arith, length-set, length-take-le, drop-set-lt}
 use lib.Seq.{drop-length}
 use Rattle.rows.specs.Rows.{blank}
 use Rattle.rows.specs.declared.row.Row.{Row}
@@ -14,8 +14,8 @@ loop-i-init c =
     let e : drop n (take n out) ≡ [] = ap (λ m. drop m (take n out)) (sym (length-take-le n out c.requires.room)) ∙ drop-length (take n out) in
     (c.requires.fits.0, omega arith, refl, c.requires.far, ap (way_back c.args.rows.now n c.args.row) e, refl)
 
-pub overflow-sub-at : goal.overflow-sub-at
-overflow-sub-at c = let h = depth_pos c.args.rows.now c.loop-i.at c.loop-i.i c.loop-i.invariant.3 (omega (arith, c.loop-i-test.true)) in omega arith
+pub overflow_sub-at : goal.overflow_sub-at
+overflow_sub-at c = let h = depth_pos c.args.rows.now c.loop-i.at c.loop-i.i c.loop-i.invariant.3 (omega (arith, c.loop-i-test.true)) in omega arith
 
 pub loop-i-preserved : goal.loop-i-preserved
 loop-i-preserved c =

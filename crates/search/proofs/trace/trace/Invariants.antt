@@ -1,4 +1,4 @@
-use Rattle.std.proofs.Common.{◌≡◌, ℕ, ◌<◌, ◌≤◌, [], length, take, drop}
+use Rattle.std.proofs.Common.{◌≡◌, ◌<◌, ◌≤◌, [], length, take, drop}
 use Rattle.search_law.specs.Boards.{Depth, way_back}
 use Rattle.search.proofs.trace.trace.Given as goal
 
