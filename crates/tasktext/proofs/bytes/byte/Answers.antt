@@ -3,8 +3,8 @@ use Rattle.textspec.specs.Hex.{is_digit, value}
 use Rattle.textspec.proofs.Hexes.{length_bytes, bytes_at, digit_at}
 use Rattle.tasktext.proofs.bytes.byte.Goals as goal
 
-pub overflow-mul-i : goal.overflow-mul-i
-overflow-mul-i c = omega (arith, length_bytes c.args.line.now.digits.now)
+pub overflow_mul-i : goal.overflow_mul-i
+overflow_mul-i c = omega (arith, length_bytes c.args.line.now.digits.now)
 
 pub bounds-digits-i : goal.bounds-digits-i
 bounds-digits-i c = omega (arith, length_bytes c.args.line.now.digits.now, ap length c.digits-digits.ensures)
@@ -14,11 +14,11 @@ value-requires c =
     ap (λ ds. is_digit (get_or ds (2 * c.args.i) 0)) c.digits-digits.ensures
     ∙ digit_at c.args.line.now.digits.now (2 * c.args.i) c.requires.sound.hex (omega (arith, length_bytes c.args.line.now.digits.now))
 
-pub overflow-mul-i-2 : goal.overflow-mul-i-2
-overflow-mul-i-2 c = omega (arith, length_bytes c.args.line.now.digits.now)
+pub overflow_mul-i-2 : goal.overflow_mul-i-2
+overflow_mul-i-2 c = omega (arith, length_bytes c.args.line.now.digits.now)
 
-pub overflow-add-i : goal.overflow-add-i
-overflow-add-i c = omega (arith, length_bytes c.args.line.now.digits.now)
+pub overflow_add-i : goal.overflow_add-i
+overflow_add-i c = omega (arith, length_bytes c.args.line.now.digits.now)
 
 pub bounds-digits-i-2 : goal.bounds-digits-i-2
 bounds-digits-i-2 c = omega (arith, length_bytes c.args.line.now.digits.now, ap length c.digits-digits.ensures)

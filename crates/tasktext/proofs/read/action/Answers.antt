@@ -23,8 +23,8 @@ byte-del-requires c =
     let n = c.args.facts in let b = bytes_of c.args.line.now in
     record { sound = c.requires.sound; within = omega (arith, (action_whole n b (passed (Action n) b c.requires.accepted).size).0) }
 
-pub list-of-requires : goal.list-of-requires
-list-of-requires c =
+pub list_of-requires : goal.list_of-requires
+list_of-requires c =
     let n = c.args.facts in let b = bytes_of c.args.line.now in
     let h = passed (Action n) b c.requires.accepted in
     let w = action_whole n b h.size in
@@ -42,8 +42,8 @@ list-of-requires c =
       ),
     )
 
-pub list-of-requires-2 : goal.list-of-requires-2
-list-of-requires-2 c =
+pub list_of-requires-2 : goal.list_of-requires-2
+list_of-requires-2 c =
     let n = c.args.facts in let b = bytes_of c.args.line.now in
     let h = passed (Action n) b c.requires.accepted in
     let w = action_whole n b h.size in
@@ -61,8 +61,8 @@ list-of-requires-2 c =
       ),
     )
 
-pub list-of-requires-3 : goal.list-of-requires-3
-list-of-requires-3 c =
+pub list_of-requires-3 : goal.list_of-requires-3
+list_of-requires-3 c =
     let n = c.args.facts in let b = bytes_of c.args.line.now in
     let h = passed (Action n) b c.requires.accepted in
     let w = action_whole n b h.size in
@@ -90,13 +90,13 @@ returns c =
     record {
       states =
           action_is n b h _ _ _
-          (c.list-of.ensures ∙ ap (λ k. take k (drop 4 b)) e1)
-          (c.list-of-2.ensures ∙ ap (λ k. take a (drop (4 + k) b)) e1 ∙ ap (λ k. take k (drop (4 + get_or b 1 0) b)) e2)
-          (c.list-of-3.ensures ∙ ap (λ k. take d (drop (4 + k + a) b)) e1 ∙ ap (λ k. take d (drop (4 + get_or b 1 0 + k) b)) e2 ∙ ap (λ k. take k (drop (4 + get_or b 1 0 + get_or b 2 0) b)) e3)
+          (c.list_of.ensures ∙ ap (λ k. take k (drop 4 b)) e1)
+          (c.list_of-2.ensures ∙ ap (λ k. take a (drop (4 + k) b)) e1 ∙ ap (λ k. take k (drop (4 + get_or b 1 0) b)) e2)
+          (c.list_of-3.ensures ∙ ap (λ k. take d (drop (4 + k + a) b)) e1 ∙ ap (λ k. take d (drop (4 + get_or b 1 0 + k) b)) e2 ∙ ap (λ k. take k (drop (4 + get_or b 1 0 + get_or b 2 0) b)) e3)
           ∙ ap action_frame (sym c.new.ensures);
       fit =
           ap (λ m. below n m.pre && (below n m.add && below n m.del)) c.new.ensures
-          ∙ and_from _ _ (ap (below n) c.list-of.ensures ∙ part_under n b h 4 p (omega arith) (omega arith))
-          (and_from _ _ (ap (below n) c.list-of-2.ensures ∙ part_under n b h (4 + p) a (omega arith) (omega arith))
-          (ap (below n) c.list-of-3.ensures ∙ part_under n b h (4 + p + a) d (omega arith) (omega arith)));
+          ∙ and_from _ _ (ap (below n) c.list_of.ensures ∙ part_under n b h 4 p (omega arith) (omega arith))
+          (and_from _ _ (ap (below n) c.list_of-2.ensures ∙ part_under n b h (4 + p) a (omega arith) (omega arith))
+          (ap (below n) c.list_of-3.ensures ∙ part_under n b h (4 + p + a) d (omega arith) (omega arith)));
     }

@@ -6,8 +6,8 @@ use Rattle.textspec.proofs.Hexes.{length_bytes}
 use Rattle.tasktext.proofs.Pushes.{joins}
 use Rattle.tasktext.proofs.read.list_of.Goals as goal
 
-pub overflow-add-from : goal.overflow-add-from
-overflow-add-from g c = omega (arith, c.requires.sound.few, length_bytes c.args.line.now.digits.now)
+pub overflow_add-from : goal.overflow_add-from
+overflow_add-from g c = omega (arith, c.requires.sound.few, length_bytes c.args.line.now.digits.now)
 
 pub loop-i-preserved : goal.loop-i-preserved
 loop-i-preserved g c =

@@ -4,8 +4,8 @@ use Rattle.hexline.specs.Lines.{bytes_of}
 use Rattle.textspec.proofs.Hexes.{length_bytes}
 use Rattle.tasktext.proofs.read.listing.Goals as goal
 
-pub list-of-requires : goal.list-of-requires
-list-of-requires c =
+pub list_of-requires : goal.list_of-requires
+list_of-requires c =
     let b = bytes_of c.args.line.now in
     let h = c.requires.shape in
     let l = length_bytes c.args.line.now.digits.now in
@@ -29,4 +29,4 @@ pub returns : goal.returns
 returns c =
     let b = bytes_of c.args.line.now in
     let e1 = c.byte.ensures in
-    c.list-of.ensures ∙ take_all c.byte.result (drop 2 b) (omega (arith, length-drop 2 b, c.requires.shape.size))
+    c.list_of.ensures ∙ take_all c.byte.result (drop 2 b) (omega (arith, length-drop 2 b, c.requires.shape.size))

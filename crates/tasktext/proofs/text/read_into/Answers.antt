@@ -19,10 +19,10 @@ loop-reader-init c =
     }
 
 pub loop-reader-preserved : goal.loop-reader-preserved
-loop-reader-preserved c = begins_more _ _ c.args.text.now _ _ c.in-default.ensures c.loop-reader.invariant
+loop-reader-preserved c = begins_more _ _ c.args.text.now _ _ c.in_default.ensures c.loop-reader.invariant
 
 pub loop-reader-smaller : goal.loop-reader-smaller
-loop-reader-smaller c = less_left _ _ c.args.text.now _ _ c.in-default.ensures
+loop-reader-smaller c = less_left _ _ c.args.text.now _ _ c.in_default.ensures
 
 pub returns-in-Err : goal.returns-in-Err
 returns-in-Err c =

@@ -15,6 +15,6 @@ returns-in-Ok c =
     let m = c.in-Ok.ensures.1 in
     (lawful c.in-Ok.task, whole l c.in-Nothing.is ∙ ap frames_of (sym m))
 
-pub returns-in-default : goal.returns-in-default
-returns-in-default c =
-    (refl, ap (λ n. Early (record { line = n + 1; at = 1 })) c.accepted-number.ensures.count, λ e. c.in-default.not-Nothing (due_is c.args.self ∙ e))
+pub returns-in_default : goal.returns-in_default
+returns-in_default c =
+    (refl, ap (λ n. Early (record { line = n + 1; at = 1 })) c.accepted-number.ensures.count, λ e. c.in_default.not-Nothing (due_is c.args.self ∙ e))

@@ -20,27 +20,28 @@ known s m d =
     let q = four m s.facts s.wanted (ltb (vec_len s.actions) s.wanted) o in
     (q.0, q.1, q.2, ltb-true _ _ q.3)
 
-pub push-reserved-requires : goal.push-reserved-requires
-push-reserved-requires c =
+pub push_reserved-requires : goal.push_reserved-requires
+push_reserved-requires c =
     let q = known c.args.self.now c.args.facts c.requires.due in omega (arith, c.args.self.now.room)
 
-pub invariant-of-self : goal.invariant-of-self
-invariant-of-self c =
+pub invariant_of-self : goal.invariant_of-self
+invariant_of-self c =
     let s = c.args.self.now in
     let f = s.facts in let w = s.wanted in let m = c.args.facts in
     let a = c.action.result in
-    let vs = c.push-reserved.new.self in
-    let h = c.push-reserved.ensures.items in
-    let l = c.push-reserved.ensures.len in
+    let vs = c.push_reserved.new.self in
+    let h = c.push_reserved.ensures.items in
+    let l = c.push_reserved.ensures.len in
     let q = known s m c.requires.due in
     let le : vec_len vs ≤ w = omega arith in
-    let due = c.next-due-self.ensures ∙ ap (λ n. cond (eqb n w) (Goal m) (Action m)) c.len.ensures ∙ ap (λ k. cond (eqb (vec_len vs) w) (Goal k) (Action k)) q.0 in (
-      subst (λ d. in_order d f w (vec_len vs) ≡ true) (sym due) (order_next f w (vec_len vs) q.1 q.2 le),
-      (
-        ap (all_fit f) h ∙ pass_push (fits f) (vec_items s.actions) a s.fit (ap (λ n. fits n a) (sym q.0) ∙ c.action.ensures.fit),
-        (s.goal_fit, (s.start_fit, (omega (arith, c.push-reserved.ensures.capacity, s.room), tt))),
-      ),
-    )
+    let due = c.next_due-self.ensures ∙ ap (λ n. cond (eqb n w) (Goal m) (Action m)) c.len.ensures ∙ ap (λ k. cond (eqb (vec_len vs) w) (Goal k) (Action k)) q.0 in
+    record {
+      order = subst (λ d. in_order d f w (vec_len vs) ≡ true) (sym due) (order_next f w (vec_len vs) q.1 q.2 le);
+      fit = ap (all_fit f) h ∙ pass_push (fits f) (vec_items s.actions) a s.fit (ap (λ n. fits n a) (sym q.0) ∙ c.action.ensures.fit);
+      goal_fit = s.goal_fit;
+      start_fit = s.start_fit;
+      room = omega (arith, c.push_reserved.ensures.capacity, s.room);
+    }
 
 pub returns : goal.returns
 returns c =
@@ -48,10 +49,10 @@ returns c =
     let f = s.facts in let w = s.wanted in let m = c.args.facts in
     let a = c.action.result in
     let g = listed s.goal in let t = listed s.start in
-    let vs = c.push-reserved.new.self in
+    let vs = c.push_reserved.new.self in
     let acts' = map action_of (vec_items vs) in
-    ap (λ d. before d f w acts' g t) c.next-due-self.ensures
+    ap (λ d. before d f w acts' g t) c.next_due-self.ensures
     ∙ before_next (eqb c.len.result w) m f w acts' g t
-    ∙ ap (λ xs. head_frame f w ∷ map action_frame (map action_of xs)) c.push-reserved.ensures.items
+    ∙ ap (λ xs. head_frame f w ∷ map action_frame (map action_of xs)) c.push_reserved.ensures.items
     ∙ ap (λ xs. head_frame f w ∷ map action_frame xs) (map_push action_of (vec_items s.actions) a)
     ∙ step_action f w (acts_of s) g t m (action_of a) (bytes_of c.args.line.now) s.due c.requires.due c.action.ensures.states

@@ -11,18 +11,22 @@ use Rattle.tasktext.proofs.Stages.{order_next, before_next}
 use Rattle.tasktext.proofs.Meant.{none_yet}
 use Rattle.tasktext.proofs.load.Load.put_head.Goals as goal
 
-pub invariant-of-self : goal.invariant-of-self
-invariant-of-self c =
+pub invariant_of-self : goal.invariant_of-self
+invariant_of-self c =
     let s = c.args.self.now in
     let f = c.head-sizes.result.facts in
     let w = c.head-sizes.result.actions in
     let none = none_yet s c.requires.due in
-    let due = c.next-due-self.ensures ∙ ap (λ n. cond (eqb n w) (Goal f) (Action f)) c.len.ensures in
+    let due = c.next_due-self.ensures ∙ ap (λ n. cond (eqb n w) (Goal f) (Action f)) c.len.ensures in
     let zero : length (vec_items s.actions) ≡ 0 = ap length none in
-    let le : vec_len s.actions ≤ w = omega (arith, s.actions.ok.0) in (
-      subst (λ d. in_order d f w (vec_len s.actions) ≡ true) (sym due) (order_next f w (vec_len s.actions) c.head-sizes.ensures.some c.head-sizes.ensures.few le),
-      (ap (all_fit f) none, (ap (below f) c.new-self.ensures, (ap (below f) c.new-self-2.ensures, (s.room, tt)))),
-    )
+    let le : vec_len s.actions ≤ w = omega (arith, s.actions.ok.0) in
+    record {
+      order = subst (λ d. in_order d f w (vec_len s.actions) ≡ true) (sym due) (order_next f w (vec_len s.actions) c.head-sizes.ensures.some c.head-sizes.ensures.few le);
+      fit = ap (all_fit f) none;
+      goal_fit = ap (below f) c.new-self.ensures;
+      start_fit = ap (below f) c.new-self-2.ensures;
+      room = s.room;
+    }
 
 pub returns : goal.returns
 returns c =
@@ -32,7 +36,7 @@ returns c =
     let none = none_yet s c.requires.due in
     let g = listed c.new-self.result in
     let t = listed c.new-self-2.result in
-    ap (λ d. before d f w (acts_of s) g t) c.next-due-self.ensures
+    ap (λ d. before d f w (acts_of s) g t) c.next_due-self.ensures
     ∙ before_next (eqb c.len.result w) f f w (acts_of s) g t
     ∙ ap (λ xs. head_frame f w ∷ map action_frame (map action_of xs)) none
     ∙ ap (λ b. b ∷ []) (sym c.head-sizes.ensures.states)

@@ -8,12 +8,12 @@ use Rattle.textfault.specs.Shown.{frame_shown}
 use Rattle.tasktext.proofs.Meant.{due_is}
 use Rattle.tasktext.proofs.load.Load.take_line.Goals as goal
 
-pub returns-in-err-line : goal.returns-in-err-line
-returns-in-err-line c =
-    let p = err_from_is_err_and c.from-residual.result c.from-residual.ensures.1 in
-    let h = c.in-err-line.ensures in
+pub returns-in_err-line : goal.returns-in_err-line
+returns-in_err-line c =
+    let p = err_from_is_err_and c.from_residual.result c.from_residual.ensures.1 in
+    let h = c.in_err-line.ensures in
     let s = c.args.self.now in
-    let f = frame_shown c.in-err-line.field-0.0 in
+    let f = frame_shown c.in_err-line.field-0.0 in
     let text = left c.args.reader.now in
     rw (p.1, p.2) (
       refl,
@@ -26,6 +26,6 @@ returns-in-err-line c =
 
 pub returns : goal.returns
 returns c =
-    let l = c.in-ok-line.ensures in
-    let b = bytes_of c.in-ok-line.line in
+    let l = c.in_ok-line.ensures in
+    let b = bytes_of c.in_ok-line.line in
     record { bytes = b; line = l.1; none = ap (λ d. refusal d b) (sym (due_is c.args.self.now)) ∙ l.2; moved = c.put.ensures }
