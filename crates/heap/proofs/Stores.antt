@@ -5,12 +5,13 @@ use lib.Seq.{set-get_or}
 use Rattle.std.proofs.lemmas.List.{with_items_is, get_or_read, get_or-replicate}
 use Rattle.std.specs.Vec.{with_items}
 use Rattle.queue.specs.Queues.{at, held}
+use Rattle.queue.specs.declared.key.Key.{Ghosts}
 use Rattle.queue.proofs.Tables.{differ}
 use Rattle.heap_theory.specs.Heaps.{Shape, Paired, slot_key}
 use Rattle.heap.specs.declared.store.HeapQueue.{HeapQueue}
 
 -- the shape that a heap's ghost fields say
-pub shape_of : {K : Type 0} (h : HeapQueue K) → Shape (vec_items h.keys) (vec_items h.slots) (vec_items h.places) h.size
+pub shape_of : {K : Type 0} {key : Ghosts K} (h : HeapQueue K key) → Shape (vec_items h.keys) (vec_items h.slots) (vec_items h.places) h.size
 shape_of h = record {
   fits = h.fits;
   paired = record {
@@ -27,19 +28,28 @@ shape_of h = record {
 module _ {K : Type 0} (keys : List (Option K)) (slots places : List ℕ) (size : ℕ) where
   -- a shape as a heap's ghost fields are owed
   abbrev pub Owed : Type 0
-  Owed =
-      (size ≤ length keys)
-      × ((length slots ≡ length keys)
-      × ((length places ≡ length keys)
-      × (((i : ℕ) → i < length keys → get_or slots i 0 < length keys)
-      × (((i : ℕ) → i < length keys → get_or places (get_or slots i 0) 0 ≡ i)
-      × (((j : ℕ) → j < length keys → get_or places j 0 < length keys)
-      × (((j : ℕ) → j < length keys → get_or slots (get_or places j 0) 0 ≡ j)
-      × (((i : ℕ) → i < length keys → is_some (slot_key keys slots i) ≡ ltb i size)
-      × Unit {0})))))))
+  Owed = record {
+    fits : size ≤ length keys;
+    slots_long : length slots ≡ length keys;
+    places_long : length places ≡ length keys;
+    slot_within : (i : ℕ) → i < length keys → get_or slots i 0 < length keys;
+    slot_back : (i : ℕ) → i < length keys → get_or places (get_or slots i 0) 0 ≡ i;
+    place_within : (j : ℕ) → j < length keys → get_or places j 0 < length keys;
+    place_back : (j : ℕ) → j < length keys → get_or slots (get_or places j 0) 0 ≡ j;
+    held : (i : ℕ) → i < length keys → is_some (slot_key keys slots i) ≡ ltb i size;
+  }
 
   pub owed : Shape keys slots places size → Owed
-  owed z = (z.fits, (z.paired.slots_long, (z.paired.places_long, (z.paired.slot_within, (z.paired.slot_back, (z.paired.place_within, (z.paired.place_back, (z.held, tt))))))))
+  owed z = record {
+    fits = z.fits;
+    slots_long = z.paired.slots_long;
+    places_long = z.paired.places_long;
+    slot_within = z.paired.slot_within;
+    slot_back = z.paired.slot_back;
+    place_within = z.paired.place_within;
+    place_back = z.paired.place_back;
+    held = z.held;
+  }
 
 module _ {K : Type 0} (P : List (Option K) → List ℕ → List ℕ → Type 0) where
   -- what holds of three lists holds of lists that equal them

@@ -14,20 +14,20 @@ exchange-requires g c =
       within = (omega arith, omega arith);
     }
 
-pub sift-up-requires : goal.sift-up-requires
-sift-up-requires g c =
-    let a = added c.requires.shape g.row.K-Key.leq c.args.item c.args.key c.exchange.new.slots c.exchange.new.places c.requires.within c.requires.free c.exchange.ensures.pairs c.exchange.ensures.swaps in
+pub sift_up-requires : goal.sift_up-requires
+sift_up-requires g c =
+    let a = added c.requires.shape g.K.Key.leq c.args.item c.args.key c.exchange.new.slots c.exchange.new.places c.requires.within c.requires.free c.exchange.ensures.pairs c.exchange.ensures.swaps in
     record { paired = a.paired; held = a.held; within = a.within }
 
 pub returns : goal.returns
 returns g c =
     let o = c.requires.shape in
-    let a = added o g.row.K-Key.leq c.args.item c.args.key c.exchange.new.slots c.exchange.new.places c.requires.within c.requires.free c.exchange.ensures.pairs c.exchange.ensures.swaps in
+    let a = added o g.K.Key.leq c.args.item c.args.key c.exchange.new.slots c.exchange.new.places c.requires.within c.requires.free c.exchange.ensures.pairs c.exchange.ensures.swaps in
     let above = free_above o c.args.item c.requires.within c.requires.free in
     let low = o.paired.place_within c.args.item c.requires.within in
     record {
       fits = omega arith;
       after = refl;
-      shape = record { fits = a.within.1; paired = c.sift-up.ensures.pairs; held = c.sift-up.ensures.holds };
-      order = λ ok. c.sift-up.ensures.order (a.nearly ok);
+      shape = record { fits = a.within.1; paired = c.sift_up.ensures.pairs; held = c.sift_up.ensures.holds };
+      order = λ ok. c.sift_up.ensures.order (a.nearly ok);
     }

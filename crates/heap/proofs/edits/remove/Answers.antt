@@ -2,8 +2,8 @@ use Rattle.std.proofs.Common.{refl, arith}
 use Rattle.heap_theory.proofs.Edits.{held_below, removed}
 use Rattle.heap.proofs.edits.remove.Goals as goal
 
-pub overflow-sub-last : goal.overflow-sub-last
-overflow-sub-last g c = let low = held_below c.requires.shape c.args.item c.requires.within c.requires.present in omega arith
+pub overflow_sub-last : goal.overflow_sub-last
+overflow_sub-last g c = let low = held_below c.requires.shape c.args.item c.requires.within c.requires.present in omega arith
 
 pub settle-requires : goal.settle-requires
 settle-requires g c =

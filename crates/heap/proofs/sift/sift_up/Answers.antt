@@ -20,17 +20,17 @@ loop-p-preserved g c =
       subst (Paired c.exchange.new.slots c.exchange.new.places) inv.0.slots_long c.exchange.ensures.pairs,
       held_swap c.args.keys.now c.loop-p.slots c.exchange.new.slots size p q s inv.2 within c.requires.within.1 inv.1,
       within,
-      λ u. up_step (option_trans o) f h size p q child inv.2 s (option_not o (f q) (f p) (sym c.if-in-order.ensures)) (inv.3 u),
+      λ u. up_step (option_trans o) f h size p q child inv.2 s (option_not o (f q) (f p) (sym c.if-in_order.ensures)) (inv.3 u),
     )
 
 pub loop-p-init : goal.loop-p-init
 loop-p-init g c = (c.requires.paired, c.requires.held, c.requires.within.0, λ u. u)
 
-pub returns-then-in-order : goal.returns-then-in-order
-returns-then-in-order g c =
+pub returns-then-in_order : goal.returns-then-in_order
+returns-then-in_order g c =
     let inv = c.loop-p.invariant in
     let f = slot_key c.args.keys.now c.loop-p.slots in
-    record { pairs = inv.0; holds = inv.1; order = λ u. up_done f c.args.size c.loop-p.p ((c.loop-p.p - 1) / 2) (omega arith, omega arith) (sym c.if-in-order.ensures) (inv.3 u) }
+    record { pairs = inv.0; holds = inv.1; order = λ u. up_done f c.args.size c.loop-p.p ((c.loop-p.p - 1) / 2) (omega arith, omega arith) (sym c.if-in_order.ensures) (inv.3 u) }
 
 pub returns : goal.returns
 returns g c =

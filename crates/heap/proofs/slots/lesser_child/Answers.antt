@@ -12,18 +12,18 @@ returns-then-left-size g c =
       least = λ j ch jn. pick (option_trans o) (option_refl o) (slot_key c.args.keys.now c.args.slots.now) (2 * c.args.p + 1) (2 * c.args.p + 1) (option_refl o _) (inl (omega arith));
     }
 
-pub returns-then-in-order : goal.returns-then-in-order
-returns-then-in-order g c =
+pub returns-then-in_order : goal.returns-then-in_order
+returns-then-in_order g c =
     let o = g.met.K.Key.orders in
     record {
       child = ((omega arith, omega arith), omega arith);
-      least = λ j ch jn. pick (option_trans o) (option_refl o) (slot_key c.args.keys.now c.args.slots.now) _ _ (sym c.if-in-order.ensures) (child_is c.args.p j ch);
+      least = λ j ch jn. pick (option_trans o) (option_refl o) (slot_key c.args.keys.now c.args.slots.now) _ _ (sym c.if-in_order.ensures) (child_is c.args.p j ch);
     }
 
-pub returns-else-in-order : goal.returns-else-in-order
-returns-else-in-order g c =
+pub returns-else-in_order : goal.returns-else-in_order
+returns-else-in_order g c =
     let o = g.met.K.Key.orders in
     record {
       child = ((omega arith, omega arith), omega arith);
-      least = λ j ch jn. pick (option_trans o) (option_refl o) (slot_key c.args.keys.now c.args.slots.now) _ _ (option_not o (slot_key c.args.keys.now c.args.slots.now (2 * c.args.p + 1)) (slot_key c.args.keys.now c.args.slots.now (2 * c.args.p + 1 + 1)) (sym c.if-in-order.ensures)) (⊎_elim inr inl (child_is c.args.p j ch));
+      least = λ j ch jn. pick (option_trans o) (option_refl o) (slot_key c.args.keys.now c.args.slots.now) _ _ (option_not o (slot_key c.args.keys.now c.args.slots.now (2 * c.args.p + 1)) (slot_key c.args.keys.now c.args.slots.now (2 * c.args.p + 1 + 1)) (sym c.if-in_order.ensures)) (⊎_elim inr inl (child_is c.args.p j ch));
     }

@@ -13,31 +13,31 @@ remove-requires g c =
     let item = c.args.item in
     let present : held t item ≡ true = sym c.if-contains.ensures in
     record {
-      shape = of_same (λ a b d. Shape a b d v.size) c.deref-mut.ensures.value c.deref-mut-then-contains.ensures.value c.deref-mut-then-contains-2.ensures.value (shape_of v);
-      within = subst (λ u. item < length u) (sym c.deref-mut.ensures.value) (held_within t item present);
-      present = subst (λ u. held u item ≡ true) (sym c.deref-mut.ensures.value) present;
+      shape = of_same (λ a b d. Shape a b d v.size) c.deref_mut.ensures.value c.deref_mut-then-contains.ensures.value c.deref_mut-then-contains-2.ensures.value (shape_of v);
+      within = subst (λ u. item < length u) (sym c.deref_mut.ensures.value) (held_within t item present);
+      present = subst (λ u. held u item ≡ true) (sym c.deref_mut.ensures.value) present;
     }
 
-pub invariant-of-self : goal.invariant-of-self
-invariant-of-self g c =
+pub invariant_of-self : goal.invariant_of-self
+invariant_of-self g c =
     let v = c.args.self.now in
-    let k = c.remove.auto.keys ∙ c.deref-mut.ensures.len in
-    let s = c.remove.auto.slots ∙ c.deref-mut-then-contains.ensures.len in
-    let p = c.remove.auto.places ∙ c.deref-mut-then-contains-2.ensures.len in
+    let k = c.remove.auto.keys ∙ c.deref_mut.ensures.len in
+    let s = c.remove.auto.slots ∙ c.deref_mut-then-contains.ensures.len in
+    let p = c.remove.auto.places ∙ c.deref_mut-then-contains-2.ensures.len in
     owed _ _ _ _ (of_refilled (λ a b d. Shape a b d (v.size - 1)) v.keys v.slots v.places c.remove.new.keys c.remove.new.slots c.remove.new.places k s p c.remove.ensures.shape)
 
 pub returns-then-contains : goal.returns-then-contains
 returns-then-contains g c =
     let v = c.args.self.now in
-    let leq = g.row.K-Key.leq in
-    let k = c.remove.auto.keys ∙ c.deref-mut.ensures.len in
-    let s = c.remove.auto.slots ∙ c.deref-mut-then-contains.ensures.len in
-    let p = c.remove.auto.places ∙ c.deref-mut-then-contains-2.ensures.len in
+    let leq = g.K.Key.leq in
+    let k = c.remove.auto.keys ∙ c.deref_mut.ensures.len in
+    let s = c.remove.auto.slots ∙ c.deref_mut-then-contains.ensures.len in
+    let p = c.remove.auto.places ∙ c.deref_mut-then-contains-2.ensures.len in
     record {
-      after = with_items_is v.keys c.remove.new.keys k ∙ c.remove.ensures.after ∙ ap (λ u. set u c.args.item None) c.deref-mut.ensures.value;
+      after = with_items_is v.keys c.remove.new.keys k ∙ c.remove.ensures.after ∙ ap (λ u. set u c.args.item None) c.deref_mut.ensures.value;
       order = λ ok.
           of_refilled (λ a b d. Ordered leq a b (v.size - 1)) v.keys v.slots v.places c.remove.new.keys c.remove.new.slots c.remove.new.places k s p
-          (c.remove.ensures.order (of_same (λ a b d. Ordered leq a b v.size) c.deref-mut.ensures.value c.deref-mut-then-contains.ensures.value c.deref-mut-then-contains-2.ensures.value ok));
+          (c.remove.ensures.order (of_same (λ a b d. Ordered leq a b v.size) c.deref_mut.ensures.value c.deref_mut-then-contains.ensures.value c.deref_mut-then-contains-2.ensures.value ok));
     }
 
 pub returns-else-contains : goal.returns-else-contains
