@@ -11,6 +11,7 @@ use rules::additive::AdditiveRule;
 use rules::largest::MaxRule;
 use std::env;
 use std::io::Read;
+use std::process::ExitCode;
 use strips::task::Task;
 use tasktext::text::read_task;
 use textfault::fault::ReadFault;
@@ -88,10 +89,12 @@ fn run(rt: &HostRuntime) -> Result<(), Failure> {
     }
 }
 
-fn main(rt: HostRuntime) -> Result<(), Failure> {
-    let done = run(&rt);
-    if let Err(failure) = &done {
-        let _ = eprintln!(rt; "table: {failure}");
+fn main(rt: HostRuntime) -> ExitCode {
+    match run(&rt) {
+        Ok(()) => ExitCode::SUCCESS,
+        Err(failure) => {
+            let _ = eprintln!(rt; "table: {failure}");
+            ExitCode::FAILURE
+        }
     }
-    done
 }
