@@ -1,5 +1,6 @@
 // Faults of a line's digits: 1, 2 and 7.
 use crate::written::*;
+use std::test::Fail;
 
 #[test]
 fn a_bad_digit_at_its_column(rt: HostRuntime) -> Result<(), Fail> {

@@ -1,5 +1,6 @@
 // Frames that are not due: 3.
 use crate::written::*;
+use std::test::Fail;
 
 #[test]
 fn another_kind_than_the_one_due(rt: HostRuntime) -> Result<(), Fail> {

@@ -1,5 +1,6 @@
 // Lengths that are not as the kind and the counts say: 4.
 use crate::written::*;
+use std::test::Fail;
 
 #[test]
 fn the_head_has_four_bytes(rt: HostRuntime) -> Result<(), Fail> {

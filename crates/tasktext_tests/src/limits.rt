@@ -1,6 +1,7 @@
 // Texts at the limits.
 use crate::written::*;
 use std::alloc::Global;
+use std::test::Fail;
 use strips::task::Task;
 use tasktext::text::read_task;
 
@@ -44,14 +45,14 @@ fn the_small_task_is_read(rt: HostRuntime) -> Result<(), Fail> {
     let task = accepted(rt.alloc(), text.as_slice())?;
     assert_eq!(rt; task.facts(), 3);
     assert_eq!(rt; task.action_count(), 2);
-    assert_eq!(rt; task.goal(), &[2u8]);
-    assert_eq!(rt; task.start(), &[0u8]);
+    assert_eq!(rt; task.goal(), [2u8].as_slice());
+    assert_eq!(rt; task.start(), [0u8].as_slice());
     let Some(a) = task.action(1) else {
         return Err(Fail::new("action 1 is missing"));
     };
-    assert_eq!(rt; a.preconditions(), &[1u8]);
-    assert_eq!(rt; a.adds(), &[2u8]);
-    assert_eq!(rt; a.deletes(), &[1u8]);
+    assert_eq!(rt; a.preconditions(), [1u8].as_slice());
+    assert_eq!(rt; a.adds(), [2u8].as_slice());
+    assert_eq!(rt; a.deletes(), [1u8].as_slice());
     Ok(())
 }
 
@@ -158,6 +159,6 @@ fn the_last_fact(rt: HostRuntime) -> Result<(), Fail> {
     gives(&rt, heap, b"01ff0000\n0301ff\n", 5, 2, 2)?;
     gives(&rt, heap, b"01fe0000\n0301fe\n", 5, 2, 2)?;
     let task = accepted(heap, b"01ff0000\n0301fe\n0400\n05\n")?;
-    assert_eq!(rt; task.goal(), &[254u8]);
+    assert_eq!(rt; task.goal(), [254u8].as_slice());
     Ok(())
 }

@@ -1,6 +1,7 @@
 // Loads: lines handed one by one, refused and mended; faults by layer.
 use crate::written::*;
 use hexline::line::Reader;
+use std::test::Fail;
 use tasktext::load::Load;
 use textfault::fault::{FrameFault, LineFault, LoadFault};
 

@@ -1,5 +1,6 @@
 // Numbers out of bounds, 5, and lists that do not rise, 6.
 use crate::written::*;
+use std::test::Fail;
 
 #[test]
 fn the_head_has_facts_and_not_too_many_actions(rt: HostRuntime) -> Result<(), Fail> {
