@@ -63,12 +63,12 @@ fn time<Q: Queue<Key = Pair>>(rt: &HostRuntime, queue: &mut Q, items: u32) -> an
 }
 
 fn time_heap(rt: &HostRuntime, items: u32) -> anyhow::Result<Laps> {
-    let mut queue: HeapQueue<Pair> = <HeapQueue<_> as Queue>::new(rt.alloc(), items as usize)?;
+    let mut queue: HeapQueue<Pair> = HeapQueue::new(rt.alloc(), items as usize)?;
     time(rt, &mut queue, items)
 }
 
 fn time_table(rt: &HostRuntime, items: u32) -> anyhow::Result<Laps> {
-    let mut queue: TableQueue<Pair> = <TableQueue<_> as Queue>::new(rt.alloc(), items as usize)?;
+    let mut queue: TableQueue<Pair> = TableQueue::new(rt.alloc(), items as usize)?;
     time(rt, &mut queue, items)
 }
 

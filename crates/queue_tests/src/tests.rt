@@ -25,12 +25,8 @@ fn figures(rt: HostRuntime) -> Result<(), Fail> {
     ];
     let heap = rt.alloc();
     for capacity in [0, 1, 2, 7, 30] {
-        let mut table: TableQueue<Figure> = <TableQueue<_> as queue::queue::Queue>::new(
-            heap, capacity,
-        )?;
-        let mut binary: HeapQueue<Figure> = <HeapQueue<_> as queue::queue::Queue>::new(
-            heap, capacity,
-        )?;
+        let mut table: TableQueue<Figure> = TableQueue::new(heap, capacity)?;
+        let mut binary: HeapQueue<Figure> = HeapQueue::new(heap, capacity)?;
         let mut list: Vec<Option<Figure>> = vec![in heap; None; capacity]?;
         work(&rt, &mut table, &mut list, &keys, CALLS, heap)?;
         work(&rt, &mut binary, &mut list, &keys, CALLS, heap)?;
@@ -51,12 +47,8 @@ fn pairs(rt: HostRuntime) -> Result<(), Fail> {
     ];
     let heap = rt.alloc();
     for capacity in [0, 1, 3, 8, 31] {
-        let mut table: TableQueue<Pair> = <TableQueue<_> as queue::queue::Queue>::new(
-            heap, capacity,
-        )?;
-        let mut binary: HeapQueue<Pair> = <HeapQueue<_> as queue::queue::Queue>::new(
-            heap, capacity,
-        )?;
+        let mut table: TableQueue<Pair> = TableQueue::new(heap, capacity)?;
+        let mut binary: HeapQueue<Pair> = HeapQueue::new(heap, capacity)?;
         let mut list: Vec<Option<Pair>> = vec![in heap; None; capacity]?;
         work(&rt, &mut table, &mut list, &keys, CALLS, heap)?;
         work(&rt, &mut binary, &mut list, &keys, CALLS, heap)?;

@@ -8,6 +8,7 @@ use solve::goal::goal_figure;
 use solve::table::solve;
 use std::alloc::Global;
 use std::process::Abort;
+use std::test::Fail;
 use strips::state::State;
 use strips::task::Task;
 
