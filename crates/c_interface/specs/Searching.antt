@@ -1,8 +1,8 @@
 -- What a search on a text's task answers, in bytes. Assumes nothing.
 --
---   Chosen            the numbers of an estimator and a queue
---   Sought            the outcome is that of a search on the problem that the text states
---   Searches          the bytes of an outcome, or why there is none
+--   Chosen           the numbers of an estimator and a queue
+--   Sought           the outcome is that of a search on the problem that the text states
+--   Searches         the bytes of an outcome, or why there is none
 --   SearchAnswered   what the caller is answered, and what is in the buffer
 use Rattle.std.specs.Prelude.{◌≡◌, ℕ, List, Some, Ok, Err, Result}
 use Rattle.model.specs.Strips.{Problem, these}

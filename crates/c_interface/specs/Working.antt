@@ -1,8 +1,8 @@
 -- What working calls on a session answers, in bytes. Assumes nothing.
 --
---   Chosen          the numbers of a rule and a queue
---   Replied         the replies are right for the calls, on the task that the text states
---   Works           the bytes of right replies, or why there are none
+--   Chosen         the numbers of a rule and a queue
+--   Replied        the replies are right for the calls, on the task that the text states
+--   Works          the bytes of right replies, or why there are none
 --   WorkAnswered   what the caller is answered, and what is in the buffer
 use Rattle.std.specs.Prelude.{◌≡◌, ℕ, List, Some, Ok, Err, Result}
 use Rattle.model.specs.Strips.{Problem}

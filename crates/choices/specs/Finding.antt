@@ -1,6 +1,6 @@
 -- What a search says, whatever the estimator and the queues. Assumes nothing.
 --
---   InRange     a number of rows that a search takes
+--   InRange      a number of rows that a search takes
 --   Searchable   the state is one of the task's, and the rows are in range
 --   Planned      a shortest plan, which is the first steps
 --   Finds        what an outcome says of plans, and when a search is refused

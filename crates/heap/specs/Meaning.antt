@@ -1,7 +1,7 @@
 -- What a heap means as a queue. Assumes nothing.
 --
 --   pairs_of   the key of each item, or None
---   InOrder   no child's key is below its parent's
+--   InOrder    no child's key is below its parent's
 use Rattle.std.specs.Prelude.{Bool, List, vec_items, Option}
 use Rattle.heap_theory.specs.Heaps.{Ordered}
 use Rattle.queue.specs.declared.key.Key.{Ghosts}

@@ -1,8 +1,8 @@
 -- What a line states, what is left of a text, and what reading a line answers. Assumes nothing.
 --
---   bytes_of    the bytes that a line states
---   left        the text that a reader has still to read
---   Sound       what every line has that a reader gave
+--   bytes_of   the bytes that a line states
+--   left       the text that a reader has still to read
+--   Sound      what every line has that a reader gave
 --   ReadLine   what the next line of a text is answered with
 use Rattle.std.specs.Prelude.{◌≡◌, ℕ, ◌%◌, ◌<◌, ◌≤◌, true, List, length, drop, Ok, Err, Result}
 use Rattle.textspec.specs.Hex.{bytes, digits_only, FirstFault, LineIs}

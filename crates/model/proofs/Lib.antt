@@ -15,4 +15,5 @@ pub mod Plans
 pub mod Counts
 pub mod WorkedTables
 pub mod WorkedFigures
+pub mod WorkedRuns
 pub mod Passing

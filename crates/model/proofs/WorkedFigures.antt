@@ -23,7 +23,7 @@ shortest_b [] plan = absurd (false≢true plan.1.0)
 shortest_b (a ∷ acts) plan = omega arith
 
 -- ---- dockets
-fits : (x : List Figure) (q : ℕ) (b a : Figure) → q < length x → get_or x q None ≡ b → rank b ≢ rank a → FitsRow x (row q b a)
+pub fits : (x : List Figure) (q : ℕ) (b a : Figure) → q < length x → get_or x q None ≡ b → rank b ≢ rank a → FitsRow x (row q b a)
 fits x q b a l e o = record { item = l; before = e; other = λ i. o (ap rank i) }
 
 rows_past : (n r : ℕ) → n ≤ r → (rows : List Row) → AllByRecursion (λ w. w.item < n) rows → rows_of r rows ≡ []
@@ -33,14 +33,14 @@ rows_past n r h (w ∷ ws) e = cond-false _ _ _ (ne_eqb w.item r (λ i. omega (a
 abbrev Exact : List Figure → List Figure → List Row → ℕ → Type 0
 Exact before after rows r = rows_of r rows ≡ changes r (get_or before r None) (get_or after r None)
 
-exact_from : (n : ℕ) (before after : List Figure) (rows : List Row) → length before ≡ n → length after ≡ n → AllByRecursion (λ w. w.item < n) rows → Upto n (Exact before after rows) → (r : ℕ) → Exact before after rows r
+pub exact_from : (n : ℕ) (before after : List Figure) (rows : List Row) → length before ≡ n → length after ≡ n → AllByRecursion (λ w. w.item < n) rows → Upto n (Exact before after rows) → (r : ℕ) → Exact before after rows r
 exact_from n before after rows b a e u r =
     ⊎_elim
     (upto n (Exact before after rows) u r)
     (λ h. rows_past n r h rows e ∙ sym (ap (λ f. changes r f (get_or after r None)) (get_or_past before r None (omega arith)) ∙ ap (changes r None) (get_or_past after r None (omega arith))))
     (cases_lt r n)
 
-docket_c : Docket figures_c figures_c_struck rows_c
+pub docket_c : Docket figures_c figures_c_struck rows_c
 unfolding figure_of
 docket_c = record {
   applies = (fits _ 0 _ _ (omega arith) refl (omega arith), (fits _ 5 _ _ (omega arith) refl (omega arith), (fits _ 1 _ _ (omega arith) refl (omega arith), (fits _ 3 _ _ (omega arith) refl (omega arith), (fits _ 2 _ _ (omega arith) refl (omega arith), (fits _ 4 _ _ (omega arith) refl (omega arith), refl))))));

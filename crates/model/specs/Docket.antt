@@ -1,10 +1,10 @@
 -- The docket: rows that lead from one list of figures to another. Assumes nothing.
 --
---   Row           an item, its figure before and its different figure after
---   Applies       the rows, applied in turn to some figures, give others
---   changes       the rows that the change of one item's figure has
+--   Row          an item, its figure before and its different figure after
+--   Applies      the rows, applied in turn to some figures, give others
+--   changes      the rows that the change of one item's figure has
 --   RisingRows   down the rows the smaller figure never falls
---   Docket        the rows apply, are exactly the changes, and rise
+--   Docket       the rows apply, are exactly the changes, and rise
 use Rattle.std.specs.Prelude.{◌≡◌, ℕ, ◌<◌, ◌≤◌, min, cond, ◌&&◌, ◌≢◌, List, [], ◌∷◌, length, get_or, ◌==◌, nat_lt, slice_index_or, slice_set}
 use Rattle.std.specs.List.{AllByRecursion}
 use Rattle.figure.specs.declared.figure.Figure.{Figure}

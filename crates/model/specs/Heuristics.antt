@@ -1,11 +1,11 @@
 -- The additive heuristic and the max heuristic of the field, and how the goal figures agree with them. Assumes nothing.
 --
---   Value                 a whole number, or infinite
---   sum_of, largest_of    what a set of facts costs, to h_add and to h_max
---   Costs                 the equations of the facts' costs, with no ceiling
+--   Value                a whole number, or infinite
+--   sum_of, largest_of   what a set of facts costs, to h_add and to h_max
+--   Costs                the equations of the facts' costs, with no ceiling
 --   OneCost              they have exactly one solution
---   Agrees                figures are twice the costs, and the goal figure is the heuristic's value, cut at the ceiling
---   Admissible            the max rule's goal figure never passes a plan's length
+--   Agrees               figures are twice the costs, and the goal figure is the heuristic's value, cut at the ceiling
+--   Admissible           the max rule's goal figure never passes a plan's length
 use Rattle.std.specs.Prelude.{◌≡◌, ℕ, ◌+◌, ◌*◌, ◌<◌, ◌≤◌, min, max, cond, List, [], ◌∷◌, length, nat_le}
 use Rattle.figure.specs.Ranks.{top, cut}
 use Rattle.model.specs.Strips.{Problem, Action, State, Lawful, Plan, names}

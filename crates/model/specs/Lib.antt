@@ -6,4 +6,5 @@ pub mod Docket
 pub mod Settling
 pub mod Heuristics
 pub mod FigureExamples
+pub mod RunExamples
 pub mod Runs

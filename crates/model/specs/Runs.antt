@@ -7,7 +7,7 @@
 --   Shown         the figures that the last accepted settle left
 --   Right         what the answer to the next call must be
 --   Rights        each answer of a list is right for the calls before it
---   FreshStart   a settled session answers what one opened on its standing facts answers
+--   FreshStart    a settled session answers what one opened on its standing facts answers
 use Rattle.std.specs.Prelude.{◌≡◌, ℕ, ◌*◌, ◌≤◌, Bool, true, false, cond, not, ◌&&◌, List, [], ◌∷◌, length, Some, None, Option, nat_lt}
 use Rattle.figure.specs.declared.figure.Figure.{Figure}
 use Rattle.figure.specs.Ranks.{top}

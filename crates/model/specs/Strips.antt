@@ -1,10 +1,10 @@
 -- The STRIPS state space: problems, states, steps, plans. Assumes nothing.
 --
---   Problem     facts and actions by number, a goal, a start
---   Lawful      the limits that every task keeps
---   State       which facts stand
+--   Problem           facts and actions by number, a goal, a start
+--   Lawful            the limits that every task keeps
+--   State             which facts stand
 --   entered, struck   the state with one fact made to stand, or to fall
---   May, step   an action may be taken in a state; the state after it
+--   May, step         an action may be taken in a state; the state after it
 --   Path, after actions may be taken in turn; the state after the last
 --   Plan        a path after which the goal stands
 --   Reachable   a path leads there

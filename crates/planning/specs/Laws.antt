@@ -2,11 +2,11 @@
 --
 --   rows          how many states the search may record
 --   start_of      the facts that stand at the start
---   GoalTold     a figure is the goal figure of the start under a rule, and so a heuristic's value
+--   GoalTold      a figure is the goal figure of the start under a rule, and so a heuristic's value
 --   plan_length   the length of the plan that an outcome tells, 0 without a plan
 --   Answered      what an outcome says of plans from the start
 --   Used          what the number of rows used says
---   PlannedLaw   the whole promise of planning
+--   PlannedLaw    the whole promise of planning
 use Rattle.std.specs.Prelude.{◌≡◌, ℕ, ◌+◌, ◌≤◌, List, [], ◌∷◌, length, vec_items}
 use Rattle.figure.specs.declared.figure.Figure.{Figure}
 use Rattle.model.specs.Strips.{Problem, State, Plan, these}

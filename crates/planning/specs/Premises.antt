@@ -2,7 +2,7 @@
 --
 --   asked        the calls made of each session
 --   Told         the last of two answers tells this figure
---   SomeTold    it tells a figure
+--   SomeTold     it tells a figure
 --   Unrefused    a search was not refused
 --   Estimating   an estimator with nothing kept, over a sound session on a problem
 --   Lendable     an empty and sound queue, rows and steps

@@ -5,3 +5,4 @@ pub mod Successors
 pub mod Takes
 pub mod Traces
 pub mod Endings
+pub mod Numbers

@@ -1,13 +1,13 @@
 -- The law of search: what an answer says, and what it leaves in memory. Assumes nothing.
 --
 --   used_of, number_of, values_of   how an outcome is told
---   PlanFound   a plan was found: a shortest one
---   NoneFound   there is no plan
---   RowsAreFull    a new state was met and every row is taken
---   Says         what an outcome says
---   LeavesRows  what the rows and the queue are afterwards
---   Law          the whole promise of an outcome
---   Searched     the whole promise of a search
+--   PlanFound     a plan was found: a shortest one
+--   NoneFound     there is no plan
+--   RowsAreFull   a new state was met and every row is taken
+--   Says          what an outcome says
+--   LeavesRows    what the rows and the queue are afterwards
+--   Law           the whole promise of an outcome
+--   Searched      the whole promise of a search
 --
 -- Agrees says that the estimator agrees with its function v, Sound that the queue is sound.
 use Rattle.std.specs.Prelude.{◌≡◌, ℕ, ◌<◌, ◌≤◌, true, false, List, [], ◌∷◌, length, take, drop, replicate, Some, None, Ok, Err, Result, ◌≢◌, slice_index_or}

@@ -2,3 +2,4 @@ pub mod Views
 pub mod Refusals
 pub mod Law
 pub mod Boards
+pub mod Numbered

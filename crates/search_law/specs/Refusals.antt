@@ -1,11 +1,11 @@
 -- What a search refuses, by number. Assumes nothing.
 --
---   Memory       what the calling program lends: rows, a step list, a queue
+--   Memory               what the calling program lends: rows, a step list, a queue
 --   QueueFits, RowsFit   what a search wants of it
---   Accepted     nothing is in the way of a search
---   Refused      a refusal is given, and no smaller number could be
---   number_of    a refusal's number
---   values_of    its values
+--   Accepted             nothing is in the way of a search
+--   Refused              a refusal is given, and no smaller number could be
+--   number_of            a refusal's number
+--   values_of            its values
 use Rattle.std.specs.Prelude.{◌≡◌, ℕ, ◌≤◌, true, List, [], ◌∷◌, length, Some, Option}
 use Rattle.model.specs.Strips.{State, Problem, Within}
 use Rattle.strips.specs.Members.{FirstFrom}

@@ -1,4 +1,7 @@
 // What a search refuses.
+ghost use Rattle.std.specs.Prelude.{◌≡◌};
+ghost use Rattle.search_law.specs.Numbered.{SmallestTold};
+ghost use Rattle.search_law.specs.Refusals.{number_of};
 
 // A search that the calling program should not have asked for.
 #[derive(Clone, Copy)]
@@ -11,4 +14,25 @@ pub enum SearchRefusal {
     RowsUnfit,
     // The estimator does not fit the task.
     EstimatorUnfit,
+}
+
+impl SearchRefusal {
+    // The number under which it is known.
+    pub fn number(self) -> u8
+        ensures { result ≡ number_of self }
+    {
+        match self {
+            SearchRefusal::StateBeyond { fact: _ } => 8,
+            SearchRefusal::QueueUnfit => 11,
+            SearchRefusal::RowsUnfit => 15,
+            SearchRefusal::EstimatorUnfit => 16,
+        }
+    }
+}
+
+// Of all that stands in the way of a search, the refusal with the smallest number is given, with its values.
+pub fn smallest_told() -> u8
+    ensures { SmallestTold }
+{
+    0
 }

@@ -1,10 +1,10 @@
 -- What an estimator's figures owe, and how plans and states are counted. Assumes nothing.
 --
 --   AdmissibleOn   figures that never pass a plan's length, and are none only where there is no plan
---   HasNoPlan         there is no plan from a state
+--   HasNoPlan      there is no plan from a state
 --   NoneShorter    no plan from a state has fewer than n steps
---   States          n different states that can be reached
---   Enough          the states that can be reached do not outnumber n
+--   States         n different states that can be reached
+--   Enough         the states that can be reached do not outnumber n
 use Rattle.std.specs.Prelude.{◌≡◌, List, ℕ, ◌+◌, ◌<◌, ◌≤◌, length}
 use Rattle.model.specs.Strips.{Problem, State, Plan, Reachable}
 use Rattle.model.specs.Heuristics.{AtMost}

@@ -2,7 +2,7 @@
 --
 --   Ahead      a queued row that promises no more than a plan has
 --   Frontier   of each plan some queued row is ahead
---   NoneLeft  where nothing is queued there is no plan
+--   NoneLeft   where nothing is queued there is no plan
 --   Taken      the row that is taken promises no more than any plan has
 --   Found      a row that has the goal gives a plan
 --   Reached    the state of each row in use can be reached

@@ -1,9 +1,9 @@
 -- What a turn of the search keeps: a row is taken and opened, then each of its successors recorded. Assumes nothing.
 --
 --   WithinTurn   what holds within a turn
---   Only          no row but one changes
---   Takes         a row is taken from the queue and opened
---   Reaches       a row gets the successor of another
+--   Only         no row but one changes
+--   Takes        a row is taken from the queue and opened
+--   Reaches      a row gets the successor of another
 --   Starts, Begins, NotTaken, NoBetter, Better, New, Ends   the theorems, in the order of a search
 use Rattle.std.specs.Prelude.{◌≡◌, true, false, ℕ, ◌+◌, ◌<◌, length}
 use Rattle.model.specs.Strips.{State, Problem, May, step, Goal}

@@ -1,7 +1,7 @@
 -- What a session says as an estimator. Assumes nothing.
 --
---   the_table     the only table of a problem and a state under the max rule
---   distance      the goal figure in it
+--   the_table           the only table of a problem and a state under the max rule
+--   distance            the goal figure in it
 --   Aligned, Followed   what moving one fact, or all, leaves of a session
 use Rattle.std.specs.Prelude.{◌≡◌, ℕ, ◌<◌, ◌≤◌, Bool, List, Option, ◌≢◌}
 use Rattle.figure.specs.declared.figure.Figure.{Figure}

@@ -1,12 +1,12 @@
 -- What is promised of held figures. Assumes nothing.
 --
---   equations_of   what the equations make of a table, for a task, a rule and a state
---   Fitting        the indexes are the task's, and there is a figure for each item
---   Keeping        the right-hand sides are right and the queue is exact
+--   equations_of           what the equations make of a table, for a task, a rule and a state
+--   Fitting                the indexes are the task's, and there is a figure for each item
+--   Keeping                the right-hand sides are right and the queue is exact
 --   Refreshed, Refreshes   one item, or some, are made right
---   Turned         what one turn of a settling answers and leaves
---   Settled        what a settling answers and leaves
---   row_of         a row of the code as a row of the subject
+--   Turned                 what one turn of a settling answers and leaves
+--   Settled                what a settling answers and leaves
+--   row_of                 a row of the code as a row of the subject
 use Rattle.std.specs.Prelude.{◌≡◌, ℕ, ◌*◌, ◌≤◌, false, List, map, length, take, replicate, vec_items, vec_len, Option, slice_index_or, slice_set}
 use Rattle.std.specs.declared.option.Option.TheVariants as option
 use Rattle.figure.specs.declared.figure.Figure.{Figure}

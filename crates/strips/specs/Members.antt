@@ -1,8 +1,8 @@
 -- Which numbers a set of bits has. Assumes nothing.
 --
---   bit          the bit of a number at a place
---   members      the meaning of a set: number f is bit f % 64 of word f / 64
---   Covers       every fact of one state stands in another
+--   bit         the bit of a number at a place
+--   members     the meaning of a set: number f is bit f % 64 of word f / 64
+--   Covers      every fact of one state stands in another
 --   FirstFrom   the first fact at or beyond a number that stands
 use Rattle.std.specs.Prelude.{◌≡◌, ℕ, ◌/◌, ◌%◌, ◌^◌, ◌<◌, ◌≤◌, Bool, false, Some, None, Option, ◌==◌, slice_index}
 use Rattle.model.specs.Strips.{State, Stands, Within}

@@ -1,6 +1,6 @@
 -- What looking at a line's frame answers. Assumes nothing.
 --
---   Checked      what testing a line's frame answers
+--   Checked     what testing a line's frame answers
 --   NextFrame   what reading the next line as the frame that is due answers
 use Rattle.std.specs.Prelude.{◌≡◌, ℕ, ◌⊎◌, List, Some, None, Ok, Err, Result}
 use Rattle.textspec.specs.declared.due.Due.{Due}

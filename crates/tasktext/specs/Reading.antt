@@ -1,8 +1,8 @@
 -- What reading a whole text answers. Assumes nothing.
 --
---   IsTextFault     why a text is refused, by the layer that says so
+--   IsTextFault   why a text is refused, by the layer that says so
 --   ReadingInto   what a text is answered with where a load is there
---   Reading        what a text is answered with
+--   Reading       what a text is answered with
 use Rattle.std.specs.Prelude.{ℕ, List, Ok, Err, Result}
 use Rattle.model.specs.Strips.{Problem}
 use Rattle.strips.specs.declared.task.Task.{Task}

@@ -5,8 +5,8 @@
 --   line_of           the line that states bytes
 --   bytes             the bytes that digits stand for
 --   fault_at          the fault that a line shows at a column
---   FirstFault       the first fault of a line, by column
---   LineIs           the text begins with the line that states these bytes
+--   FirstFault        the first fault of a line, by column
+--   LineIs            the text begins with the line that states these bytes
 use Rattle.std.specs.Prelude.{◌≡◌, ℕ, ◌+◌, ◌-◌, ◌*◌, ◌/◌, ◌%◌, ◌<◌, ◌≤◌, Bool, true, cond, ◌&&◌, ◌||◌, List, [], ◌∷◌, ◌++◌, length, ◌==◌, nat_le, slice_index}
 use Rattle.std.specs.List.{list_all}
 

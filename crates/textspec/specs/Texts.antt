@@ -1,10 +1,10 @@
 -- What a text states, and its first fault. Assumes nothing.
 --
---   States       the text states the problem
---   Fault        a fault: number, line and place
---   InTurn      each frame is due in its turn and has no fault
+--   States        the text states the problem
+--   Fault         a fault: number, line and place
+--   InTurn        each frame is due in its turn and has no fault
 --   IsLineFault   the first fault of the line that comes after these frames
---   Faulty       the first fault of a text
+--   Faulty        the first fault of a text
 --   OneProblem .. StatedOrFaulty   the five theorems about these
 use Rattle.std.specs.Prelude.{◌≡◌, ℕ, ◌+◌, ◌<◌, ◌⊎◌, List, [], ◌∷◌, ◌++◌, length, Some, None}
 use Rattle.std.specs.List.{flat_map}
