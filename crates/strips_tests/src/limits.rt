@@ -1,6 +1,7 @@
 // What makes a task, and what just does not.
 use crate::made::*;
 use std::alloc::Global;
+use std::test::Fail;
 use strips::action::Action;
 use strips::fault::{ListFault, TaskFault};
 use strips::list::FactList;

@@ -2,6 +2,7 @@
 use crate::made::*;
 use rehearsal::rehearse::rehearse;
 use rehearsal::verdict::Verdict;
+use std::test::Fail;
 use strips::action::Action;
 use strips::state::State;
 
