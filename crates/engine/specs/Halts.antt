@@ -7,7 +7,6 @@ use Rattle.model.specs.Figures.{max_rule}
 use Rattle.model.specs.Runs.{Call, fresh, Rights}
 use Rattle.strips.specs.declared.task.Task.{Task}
 use Rattle.strips.specs.Tasks.{problem}
-use Rattle.rules.specs.declared.largest.MaxRule.{MaxRule}
 use Rattle.session.specs.Openings.{Refusing}
 use Rattle.session.specs.Works.{reply_of}
 use Rattle.engine.specs.declared.halted.Halted.{Halted}

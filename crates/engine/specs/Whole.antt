@@ -3,7 +3,7 @@
 --   Shortest   what a search that was not refused says of plans
 --   OwnLaw     the same where the estimator is the session itself
 --   WholeLaw   each answer of the session is right for the calls before it, and the search is right about plans
-use Rattle.std.specs.Prelude.{◌≡◌, ℕ, ◌≤◌, List, [], ◌∷◌, length, take, Ok, Err, Result}
+use Rattle.std.specs.Prelude.{◌≡◌, ℕ, ◌≤◌, List, length, take, Ok, Err, Result}
 use Rattle.model.specs.Strips.{Problem, State, Plan}
 use Rattle.model.specs.Figures.{Rule}
 use Rattle.model.specs.Runs.{Call, Reply, fresh, Rights}

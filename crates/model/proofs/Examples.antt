@@ -1,8 +1,8 @@
 -- The worked examples. Assumes nothing.
-use Rattle.std.proofs.Common.{◌≡◌, ℕ, zero, suc, Bool, true, false, not, ◌&&◌, ◌||◌, eqb, [], ◌∷◌, length, replicate, sym, refl, arith}
+use Rattle.std.proofs.Common.{◌≡◌, ℕ, zero, suc, Bool, true, false, ◌&&◌, ◌||◌, eqb, [], ◌∷◌, replicate, sym, refl, arith}
 use Rattle.std.proofs.lemmas.Bool.{ne_eqb, false≢true}
 use Rattle.std.specs.List.{AllByRecursion}
-use Rattle.model.specs.Strips.{State, Listed, Fits, no_action, May, step, Goal}
+use Rattle.model.specs.Strips.{Listed, Fits, no_action, May, step, Goal}
 use Rattle.model.specs.Examples.{sixteen, Limits, Worked, WorkedVerdicts}
 
 or_true : (b : Bool) → (b || true) ≡ true

@@ -4,8 +4,8 @@ use Rattle.std.proofs.lemmas.Bool.{cases_lt}
 use Rattle.figure.specs.declared.figure.Figure.{Figure}
 use Rattle.figure.specs.declared.figure.Figure.TheVariants.{None}
 use Rattle.figure.specs.Ranks.{top}
-use Rattle.model.specs.Strips.{Problem, State, items, these, entered, struck}
-use Rattle.model.specs.Figures.{Rule, Laws, additive_rule, max_rule, Table, figure_of, table, node, equations, Solves, goal_figure}
+use Rattle.model.specs.Strips.{State, these, entered, struck}
+use Rattle.model.specs.Figures.{Rule, Laws, additive_rule, max_rule, figure_of, table, node, equations, Solves, goal_figure}
 use Rattle.model.specs.Docket.{Docket}
 use Rattle.model.specs.FigureExamples.{task_c, figures_c, figures_c_struck, rows_c}
 use Rattle.model.specs.Runs.Reply.{is}

@@ -1,5 +1,5 @@
 -- Small worked examples. Assumes nothing.
-use Rattle.std.specs.Prelude.{◌≡◌, ℕ, true, List, [], ◌∷◌, replicate}
+use Rattle.std.specs.Prelude.{◌≡◌, ℕ, List, [], ◌∷◌, replicate}
 use Rattle.model.specs.Strips.{Problem, Action, State, Listed, Fits, Lawful, no_action, these, step, after, Plan, Reachable, Stands, Within}
 use Rattle.model.specs.Rehearsals.{verdict, blocked, good, refused, reading}
 

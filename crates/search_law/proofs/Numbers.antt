@@ -1,12 +1,11 @@
 -- A refusal tells what stands in the way under the smallest number. Assumes nothing.
-use Rattle.std.proofs.Common.{◌≡◌, ℕ, ◌≤◌, Bool, true, List, Some, sym, ◌∙◌, arith}
+use Rattle.std.proofs.Common.{◌≡◌, ℕ, ◌≤◌, true, List, Some, sym, ◌∙◌, arith}
 use Rattle.std.proofs.lemmas.Bool.{false≢true}
 use Rattle.model.specs.Strips.{Problem, State, Within}
 use Rattle.strips.specs.Members.{FirstFrom}
-use Rattle.search_law.specs.declared.refusal.SearchRefusal.{SearchRefusal}
 use Rattle.search_law.specs.declared.refusal.SearchRefusal.TheVariants.{StateBeyond, QueueUnfit, RowsUnfit, EstimatorUnfit}
-use Rattle.search_law.specs.Refusals.{Memory, QueueFits, RowsFit, Refused, number_of, values_of}
-use Rattle.search_law.specs.Numbered.{InTheWay, ToldFirst, SmallestTold}
+use Rattle.search_law.specs.Refusals.{Memory, QueueFits, RowsFit}
+use Rattle.search_law.specs.Numbered.{InTheWay, SmallestTold}
 use Rattle.search_law.specs.Numbered.InTheWay.{state, queue, rows, estimator}
 
 -- a state within the task has no fact beyond it

@@ -1,14 +1,12 @@
 -- Each call's answer is right for the calls before it. Assumes nothing.
-use Rattle.std.proofs.Common.{◌≡◌, ℕ, ◌+◌, ◌*◌, ◌<◌, ◌≤◌, Bool, true, false, cond, not, ◌&&◌, ltb, ◌⊎◌, List, [], ◌∷◌, ◌++◌, map, length, get_or, take, set, Ok, Err, vec_items, vec_len, Option, Result, Vec, sym, refl, ap, ◌∙◌, subst, ap₂, inl, inr, ⊎_elim, arith, length-take}
+use Rattle.std.proofs.Common.{◌≡◌, ℕ, ◌*◌, ◌<◌, ◌≤◌, Bool, true, false, not, ◌&&◌, ltb, List, map, length, get_or, take, Ok, Err, vec_items, Option, Result, sym, refl, ap, ◌∙◌, subst, ap₂, ⊎_elim, arith, length-take}
 use lib.ListN.{length-map}
-use Rattle.std.specs.declared.alloc.Global.{Global}
-use Rattle.std.specs.declared.option.Option.TheVariants as option
 use Rattle.std.proofs.lemmas.Bool.{cond-true, cond-false, lt-ltb, le-ltb, cases_Bool}
 use Rattle.figure.specs.declared.figure.Figure.{Figure}
 use Rattle.figure.specs.declared.figure.Figure.TheVariants.{None}
 use Rattle.model.specs.Strips.{State as Facts, items, entered, struck}
-use Rattle.model.specs.Figures.{Rule, Table, table, figure_of, equations, Solves, goal_figure}
-use Rattle.model.specs.Runs.{Past, Call, Reply, next, ended, moved_to, at_rest, Shown, Right, Rights, Docketed}
+use Rattle.model.specs.Figures.{Rule, table, equations, Solves}
+use Rattle.model.specs.Runs.{Past, Shown, Right, Docketed}
 use Rattle.model.specs.Runs.Call.{enter, strike, settle, figure, goal}
 use Rattle.model.specs.Runs.Reply.{told, wrote, is, refused}
 use Rattle.model.proofs.Passing.{pick_true, pick_false}
@@ -21,7 +19,7 @@ use Rattle.settling.specs.Holding.{row_of}
 use Rattle.session.specs.declared.fault.SessionFault.{SessionFault}
 use Rattle.session.specs.declared.session.Session.{Session}
 use Rattle.session.specs.Refusals.{number_of}
-use Rattle.session.specs.Sessions.{task_of, facts_of, figures_of, Sound, Restood, Entering, Striking, Settles, Docketing, figure_answer, goal_answer}
+use Rattle.session.specs.Sessions.{task_of, figures_of, Sound, Entering, Striking, Settles, Docketing, figure_answer, goal_answer}
 use Rattle.session.specs.Laws.{told_of, shown_of, wrote_of, Led, Goes}
 
 module _ {R Q : Type 0} (result : R → Rule) (qs : Q → Type 0) (pairs : Q → List (Option Figure)) (s t : Session R Q) where

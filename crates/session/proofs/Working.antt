@@ -1,5 +1,5 @@
 -- One more call of a list. Assumes nothing.
-use Rattle.std.proofs.Common.{◌≡◌, ℕ, ◌+◌, Bool, true, false, List, [], ◌∷◌, ◌++◌, map, Ok, Err, Option, Result, Vec, sym, refl, ap, ◌∙◌, subst, ap₂, arith}
+use Rattle.std.proofs.Common.{◌≡◌, ℕ, ◌+◌, Bool, true, false, List, [], ◌∷◌, ◌++◌, map, Ok, Err, Option, Result, Vec, sym, ap, ◌∙◌, subst, arith}
 use Rattle.std.specs.declared.alloc.Global.{Global}
 use Rattle.settling.specs.declared.row.DocketRow.{DocketRow}
 use Rattle.session.specs.declared.fault.SessionFault.{SessionFault}
@@ -14,7 +14,7 @@ use Rattle.settling.specs.declared.base.Base.{Base}
 use Rattle.session.specs.declared.call.Call.{Call as CallValue}
 use Rattle.session.specs.declared.call.Answer.{Answer}
 use Rattle.session.specs.declared.session.Session.{Session}
-use Rattle.session.specs.Sessions.{task_of, Restood, Entering, Striking, Settles}
+use Rattle.session.specs.Sessions.{task_of, Entering, Striking}
 use Rattle.session.specs.Laws.{Led, Goes}
 use Rattle.session.specs.Works.{call_of, reply_of, Working}
 

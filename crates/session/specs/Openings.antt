@@ -3,7 +3,7 @@
 --   ready      whether a session can be opened on a queue
 --   Opened     the session that it then is
 --   Refusing   a refused opening: why, and all given back
-use Rattle.std.specs.Prelude.{◌≡◌, ℕ, Bool, true, false, ◌&&◌, List, length, replicate, Option, nat_le}
+use Rattle.std.specs.Prelude.{◌≡◌, Bool, true, false, ◌&&◌, List, length, replicate, Option, nat_le}
 use Rattle.figure.specs.declared.figure.Figure.{Figure}
 use Rattle.figure.specs.declared.figure.Figure.TheVariants.{None}
 use Rattle.model.specs.Strips.{Problem, items, these}

@@ -7,22 +7,20 @@
 --   Docketing       the figures and the rows of an accepted settle
 --   figure_answer, goal_answer      what figure and goal figure answer
 --   ready, Opened, Refusing         when a session can be opened, and what an opening answers
-use Rattle.std.specs.Prelude.{◌≡◌, ℕ, ◌*◌, ◌<◌, ◌≤◌, Bool, true, false, cond, ◌&&◌, List, map, length, take, drop, replicate, Ok, Err, vec_items, Option, Result, nat_lt, slice_index_or}
+use Rattle.std.specs.Prelude.{◌≡◌, ℕ, ◌*◌, ◌<◌, ◌≤◌, Bool, true, false, cond, List, map, length, take, drop, Ok, Err, vec_items, Option, Result, nat_lt, slice_index_or}
 use Rattle.figure.specs.declared.figure.Figure.{Figure}
 use Rattle.figure.specs.declared.figure.Figure.TheVariants.{None}
-use Rattle.model.specs.Strips.{Problem, State as Facts, items, these, entered, struck}
+use Rattle.model.specs.Strips.{Problem, State as Facts, items, entered, struck}
 use Rattle.model.specs.Figures.{Rule, Table, table, figure_of, equations, Solves, goal_figure}
 use Rattle.model.specs.Docket.{Docket}
 use Rattle.strips.specs.declared.state.State.{State}
-use Rattle.strips.specs.declared.task.Task.{Task}
 use Rattle.strips.specs.Standing.{standing}
 use Rattle.strips.specs.Tasks.{problem}
 use Rattle.links.specs.Indexes.{Linked}
-use Rattle.queue.specs.Queues.{vacant}
 use Rattle.settling.specs.declared.row.DocketRow.{DocketRow}
 use Rattle.settling.specs.Holding.{Keeping, row_of}
 use Rattle.session.specs.declared.fault.SessionFault.{SessionFault}
-use Rattle.session.specs.declared.fault.SessionFault.TheVariants.{Unknown, Unsettled, DocketShort, QueueUnfit, Memory}
+use Rattle.session.specs.declared.fault.SessionFault.TheVariants.{Unknown, Unsettled, DocketShort}
 use Rattle.session.specs.declared.session.Session.{Session}
 
 module _ {R Q : Type 0} where

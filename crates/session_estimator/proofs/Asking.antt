@@ -1,18 +1,18 @@
 -- What a session answers when it is asked as an estimator. Assumes nothing.
-use Rattle.std.proofs.Common.{◌≡◌, ℕ, ◌*◌, ◌<◌, ◌≤◌, Bool, true, false, cond, List, [], ◌∷◌, ◌++◌, length, Ok, Err, Option, Result, sym, refl, ap, ◌∙◌, subst, arith}
+use Rattle.std.proofs.Common.{◌≡◌, ℕ, ◌*◌, ◌≤◌, cond, List, [], ◌∷◌, length, Ok, Err, Option, Result, refl, ap, ◌∙◌, subst, arith}
 use Rattle.figure.specs.declared.figure.Figure.{Figure}
 use Rattle.figure.specs.Ranks.{rank}
 use Rattle.strips.specs.Tasks.{problem}
-use Rattle.model.specs.Strips.{Problem, State, items}
+use Rattle.model.specs.Strips.{State, items}
 use Rattle.model.specs.Figures.{Rule, table, figure_of, max_rule, equations, Solves, goal_figure}
-use Rattle.model.specs.Runs.{Past, Call, Reply, next, ended}
+use Rattle.model.specs.Runs.{Reply}
 use Rattle.model.specs.Runs.Call.{settle, goal}
 use Rattle.settling.specs.declared.row.DocketRow.{DocketRow}
 use Rattle.session.specs.declared.fault.SessionFault.{SessionFault}
 use Rattle.session.specs.declared.fault.SessionFault.TheVariants.{Unsettled}
 use Rattle.session.specs.declared.session.Session.{Session}
 use Rattle.session.specs.Sessions.{task_of, facts_of, figures_of, Sound, Settles, Docketing, goal_answer}
-use Rattle.session.specs.Laws.{Led, Goes}
+use Rattle.session.specs.Laws.{Goes}
 use Rattle.session_estimator.specs.Followed.{moves, asked}
 use Rattle.session_estimator.specs.Estimating.{Leads, Followed, distance}
 use Rattle.session_estimator.specs.Tabled.{tells_distance}

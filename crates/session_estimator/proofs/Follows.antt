@@ -1,12 +1,12 @@
 -- Facts moved one after another. Assumes nothing.
-use Rattle.std.proofs.Common.{◌≡◌, ℕ, suc, ◌+◌, ◌<◌, ◌≤◌, Bool, List, [], ◌∷◌, ◌++◌, Option, sym, refl, ap, ◌∙◌, subst, arith, below_more}
+use Rattle.std.proofs.Common.{◌≡◌, ℕ, suc, ◌+◌, List, ◌++◌, Option, sym, refl, ap, ◌∙◌, subst, arith, below_more}
 use Rattle.figure.specs.declared.figure.Figure.{Figure}
 use Rattle.strips.specs.Tasks.{problem}
-use Rattle.model.specs.Strips.{Problem, State}
+use Rattle.model.specs.Strips.{State}
 use Rattle.model.specs.Figures.{Rule}
-use Rattle.model.specs.Runs.{Past, Call, next, ended}
+use Rattle.model.specs.Runs.{Call, ended}
 use Rattle.session.specs.declared.session.Session.{Session}
-use Rattle.session.specs.Sessions.{task_of, facts_of, Sound}
+use Rattle.session.specs.Sessions.{task_of, facts_of}
 use Rattle.session.specs.Laws.{Led}
 use Rattle.session_estimator.specs.Followed.{move, moves}
 use Rattle.session_estimator.specs.Estimating.{Leads, Aligned, Followed}

@@ -3,10 +3,9 @@ use Rattle.std.specs.Prelude.{◌≡◌, ℕ, ◌/◌, ◌<◌, ◌≤◌, Bool,
 use Rattle.std.proofs.Common.{ap, sym, ◌∙◌, ⊎_elim, arith}
 use Rattle.std.proofs.Math.Path.{fun_ext}
 use Rattle.std.proofs.lemmas.Bool.{cases_lt}
-use Rattle.figure.specs.declared.figure.Figure.{Figure}
 use Rattle.figure.specs.Ranks.{rank, top, cut, halved}
 use Rattle.model.specs.Strips.{Problem, State, items}
-use Rattle.model.specs.Figures.{Rule, Laws, Table, table, figure_of, max_rule, equations, Solves, goal_figure, node, side}
+use Rattle.model.specs.Figures.{Rule, Table, figure_of, max_rule, equations, Solves, goal_figure, side}
 use Rattle.model.specs.Runs.{Past, Call, next, ended}
 use Rattle.model.proofs.Equations.{one_table, max_laws, moved, node_action, node_past}
 use Rattle.model.proofs.Ranked.{rank_figure}

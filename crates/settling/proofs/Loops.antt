@@ -1,5 +1,5 @@
 -- The rows of a settling, as the loop writes them. Assumes nothing.
-use Rattle.std.proofs.Common.{◌≡◌, ℕ, ◌+◌, ◌*◌, ◌<◌, ◌≤◌, Bool, true, false, not, ◌&&◌, ◌||◌, eqb, ◌⊎◌, List, [], ◌∷◌, ◌++◌, map, length, get_or, take, drop, set, sym, refl, ap, ◌∙◌, subst, inl, inr, ⊎_elim, arith}
+use Rattle.std.proofs.Common.{◌≡◌, ℕ, ◌+◌, ◌*◌, ◌<◌, ◌≤◌, Bool, true, false, not, ◌&&◌, ◌||◌, eqb, ◌⊎◌, List, [], ◌∷◌, ◌++◌, map, length, get_or, take, drop, set, sym, ap, ◌∙◌, subst, inl, inr, ⊎_elim, arith}
 use lib.ListN.{length-map}
 use Rattle.std.proofs.lemmas.List.{take_more_set, drop-set-lt, length-take-le, drop-drop, map_push}
 use Rattle.std.proofs.lemmas.Bool.{cases_Bool, false≢true}
@@ -9,7 +9,7 @@ use Rattle.model.specs.Strips.{State, Problem, items, names, struck}
 use Rattle.model.specs.Figures.{Rule, Laws, Table, table, equations, Solves}
 use Rattle.model.specs.Docket.{Row, row, Docket}
 use Rattle.model.specs.Settling.{Step, Settling, reads}
-use Rattle.model.specs.Settling.Settling.{begun, more}
+use Rattle.model.specs.Settling.Settling.{more}
 use Rattle.model.proofs.Equations.{system, local}
 use Rattle.model.proofs.Ranked.{table_other}
 use Rattle.model.proofs.Runs.{settles, tracked}

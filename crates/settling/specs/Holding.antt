@@ -7,7 +7,7 @@
 --   Turned                 what one turn of a settling answers and leaves
 --   Settled                what a settling answers and leaves
 --   row_of                 a row of the code as a row of the subject
-use Rattle.std.specs.Prelude.{◌≡◌, ℕ, ◌*◌, ◌≤◌, false, List, map, length, take, replicate, vec_items, vec_len, Option, slice_index_or, slice_set}
+use Rattle.std.specs.Prelude.{◌≡◌, ℕ, ◌*◌, ◌≤◌, List, map, length, take, vec_items, vec_len, Option, slice_index_or, slice_set}
 use Rattle.std.specs.declared.option.Option.TheVariants as option
 use Rattle.figure.specs.declared.figure.Figure.{Figure}
 use Rattle.figure.specs.declared.figure.Figure.TheVariants.{None}

@@ -1,4 +1,4 @@
-use Rattle.std.proofs.Common.{◌≡◌, length, vec_items, sym, ap, ◌∙◌, subst, arith}
+use Rattle.std.proofs.Common.{vec_items, subst, arith}
 use Rattle.session.specs.Rooms.{Stocked}
 use Rattle.session.proofs.Rooms.{stocked_none, stocked_more}
 use Rattle.session.proofs.room.blank_dockets.Goals as goal

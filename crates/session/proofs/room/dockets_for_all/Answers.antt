@@ -1,7 +1,7 @@
 use Rattle.std.proofs.Common.{get_or, arith}
 use Rattle.std.proofs.lemmas.List.{at_drop_more, at_drop_all}
 use Rattle.session.specs.declared.call.Call.TheVariants.{Enter}
-use Rattle.session.specs.Rooms.{weight, settles}
+use Rattle.session.specs.Rooms.{settles}
 use Rattle.session.proofs.Rooms.{weight_low}
 use Rattle.session.proofs.room.dockets_for_all.Goals as goal
 

@@ -1,4 +1,4 @@
-use Rattle.std.proofs.Common.{◌≡◌, vec_items, sym, ap, ◌∙◌, subst, arith}
+use Rattle.std.proofs.Common.{vec_items, subst, arith}
 use Rattle.session.specs.Rooms.{Stocked}
 use Rattle.session.proofs.room.reserve.Goals as goal
 

@@ -1,4 +1,4 @@
-use Rattle.std.proofs.Common.{◌≡◌, ◌<◌, ◌≤◌, sym, ap, ◌∙◌, subst, arith}
+use Rattle.std.proofs.Common.{◌≡◌, ap, subst, arith}
 use Rattle.model.specs.Figures.{max_rule}
 use Rattle.strips.specs.Standing.{standing}
 use Rattle.session_estimator.specs.Estimating.{Followed, Aligned}

@@ -1,6 +1,6 @@
-use Rattle.std.proofs.Common.{◌≡◌, ℕ, ◌+◌, ◌-◌, ◌<◌, ◌≤◌, map, length, sym, refl, ap, ◌∙◌, arith}
-use Rattle.figure.specs.Ranks.{rank, cut}
-use Rattle.model.specs.Strips.{items, action, no_action}
+use Rattle.std.proofs.Common.{◌≡◌, ◌+◌, ◌-◌, ◌<◌, ◌≤◌, map, sym, ap, ◌∙◌, arith}
+use Rattle.figure.specs.Ranks.{cut}
+use Rattle.model.specs.Strips.{action, no_action}
 use Rattle.model.specs.Figures.{table, least}
 use Rattle.strips.specs.Tasks.{problem}
 use Rattle.strips.specs.Actions.{action_of}

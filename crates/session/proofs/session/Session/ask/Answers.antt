@@ -1,4 +1,4 @@
-use Rattle.std.proofs.Common.{◌≡◌, ℕ, ◌+◌, ◌*◌, List, length, vec_items, vec_len, sym, refl, ap, ◌∙◌, subst, arith}
+use Rattle.std.proofs.Common.{◌≡◌, ℕ, ◌+◌, ◌*◌, length, vec_items, vec_len, sym, refl, subst, arith}
 use Rattle.model.specs.Strips.{items}
 use Rattle.session.specs.declared.call.Call.{Call as CallValue}
 use Rattle.session.specs.declared.call.Call.TheVariants as call

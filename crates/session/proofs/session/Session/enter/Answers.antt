@@ -1,5 +1,4 @@
-use Rattle.std.proofs.Common.{◌≡◌, ℕ, ◌<◌, ◌≤◌, Bool, true, false, not, Ok, Err, sym, refl, ap, ◌∙◌, subst, arith}
-use Rattle.model.specs.Strips.{entered}
+use Rattle.std.proofs.Common.{◌≡◌, true, false, Ok, Err, sym, refl, ap, ◌∙◌, arith}
 use Rattle.strips.specs.Standing.{standing}
 use Rattle.session.specs.declared.fault.SessionFault.TheVariants.{Unknown}
 use Rattle.session.specs.Sessions.{Sound, Entering}

@@ -1,4 +1,4 @@
-use Rattle.std.proofs.Common.{◌≡◌, ℕ, Bool, true, false, cond, List, map, Ok, Err, sym, refl, ap, ◌∙◌, subst, ap₂}
+use Rattle.std.proofs.Common.{◌≡◌, ℕ, List, map, Ok, Err, sym, ap, ◌∙◌, ap₂}
 use Rattle.std.proofs.lemmas.Bool.{cond-true, cond-false}
 use Rattle.figure.specs.declared.figure.Figure.{Figure}
 use Rattle.figure.specs.Ranks.{rank, halved}

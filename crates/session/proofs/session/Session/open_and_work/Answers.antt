@@ -1,4 +1,4 @@
-use Rattle.std.proofs.Common.{◌≡◌, List, map, vec_items, sym, refl, ap, ◌∙◌, subst}
+use Rattle.std.proofs.Common.{map, vec_items, ap, ◌∙◌, subst}
 use Rattle.model.specs.Runs.{fresh, ended, Rights}
 use Rattle.strips.specs.declared.task.Task.{Task}
 use Rattle.strips.specs.Tasks.{problem}

@@ -1,4 +1,4 @@
-use Rattle.std.proofs.Common.{◌≡◌, ℕ, Bool, eqb, vec_items, sym, refl, ap, ◌∙◌, subst}
+use Rattle.std.proofs.Common.{eqb, vec_items, sym, refl, ◌∙◌}
 use Rattle.std.proofs.lemmas.Bool.{false≢true}
 use Rattle.strips.specs.Tasks.{problem}
 use Rattle.strips.specs.Standing.{standing}

@@ -1,8 +1,8 @@
-use Rattle.std.proofs.Common.{◌≡◌, ℕ, ◌*◌, ◌<◌, ◌≤◌, length, Ok, Err, sym, refl, ap, ◌∙◌, subst, arith}
+use Rattle.std.proofs.Common.{◌*◌, ◌≤◌, length, Ok, Err, refl, arith}
 use Rattle.model.specs.Strips.{items}
 use Rattle.strips.specs.Tasks.{problem}
 use Rattle.session.specs.declared.fault.SessionFault.TheVariants.{DocketShort}
-use Rattle.session.specs.Sessions.{Sound, Settles, Docketing}
+use Rattle.session.specs.Sessions.{Sound, Settles}
 use Rattle.session.proofs.Passing.{settle_goes}
 use Rattle.session.proofs.session.Session.settle.Goals as goal
 

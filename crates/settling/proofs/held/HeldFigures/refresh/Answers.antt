@@ -1,7 +1,6 @@
-use Rattle.std.proofs.Common.{◌≡◌, ℕ, ◌<◌, ◌≤◌, length, get_or, set, vec_items, sym, refl, ap, ◌∙◌, arith}
+use Rattle.std.proofs.Common.{◌≡◌, ◌<◌, length, set, vec_items, refl, ap, ◌∙◌, arith}
 use Rattle.std.proofs.lemmas.List.{get_or_read}
 use Rattle.figure.specs.declared.figure.Figure.TheVariants.{None}
-use Rattle.figure.specs.Ranks.{rank}
 use Rattle.model.specs.Figures.{table}
 use Rattle.strips.specs.Tasks.{problem}
 use Rattle.strips.specs.Standing.{standing}

@@ -1,12 +1,12 @@
-use Rattle.std.proofs.Common.{◌≡◌, ℕ, ◌+◌, ◌≤◌, Bool, true, leb, length, vec_items, vec_len, sym, refl, ap, ◌∙◌, subst, arith}
+use Rattle.std.proofs.Common.{◌+◌, true, leb, vec_items, vec_len, refl, ap, ◌∙◌, arith}
 use Rattle.std.proofs.lemmas.Bool.{le-leb}
-use Rattle.model.specs.Strips.{items, struck}
+use Rattle.model.specs.Strips.{struck}
 use Rattle.model.specs.Figures.{table}
 use Rattle.strips.specs.Tasks.{problem}
 use Rattle.strips.specs.Standing.{standing}
 use Rattle.session_theory.proofs.Queues.{stale_past, stale_weaker, struck_from}
 use Rattle.session_theory.proofs.Sides.{at_past}
-use Rattle.settling.specs.Holding.{equations_of, Lapsing}
+use Rattle.settling.specs.Holding.{equations_of}
 use Rattle.settling.proofs.held.HeldFigures.refresh_every.Goals as goal
 
 pub loop-item-init : goal.loop-item-init

@@ -1,9 +1,8 @@
-use Rattle.std.proofs.Common.{◌≡◌, ℕ, ◌+◌, ◌<◌, ◌≤◌, List, map, length, take, vec_items, vec_len, sym, refl, ap, ◌∙◌, subst, arith, length-set}
+use Rattle.std.proofs.Common.{◌≡◌, List, map, length, take, vec_items, sym, refl, ◌∙◌, subst, arith, length-set}
 use Rattle.figure.specs.declared.figure.Figure.{Figure}
 use Rattle.model.specs.Strips.{items}
 use Rattle.model.specs.Figures.{table, Solves}
 use Rattle.model.specs.Docket.{Docket}
-use Rattle.model.specs.Settling.{Settling}
 use Rattle.strips.specs.Tasks.{problem}
 use Rattle.strips.specs.Standing.{standing}
 use Rattle.settling.specs.Holding.{equations_of, row_of}

@@ -1,10 +1,9 @@
-use Rattle.std.proofs.Common.{◌≡◌, ℕ, ◌<◌, ◌≤◌, Bool, true, ◌⊎◌, List, [], length, get_or, set, vec_items, vec_len, Option, sym, refl, ap, ◌∙◌, subst, ap₂, arith, length-set}
+use Rattle.std.proofs.Common.{◌≡◌, ℕ, ◌<◌, List, length, get_or, set, vec_items, vec_len, Option, sym, refl, ap, ◌∙◌, subst, ap₂, arith, length-set}
 use Rattle.std.specs.declared.option.Option.TheVariants as option
 use Rattle.std.proofs.lemmas.List.{get_or_read}
 use Rattle.figure.specs.declared.figure.Figure.{Figure}
 use Rattle.figure.specs.declared.figure.Figure.TheVariants.{None}
-use Rattle.model.specs.Strips.{names, items}
-use Rattle.model.specs.Figures.{table}
+use Rattle.model.specs.Strips.{names}
 use Rattle.model.specs.Settling.{Step}
 use Rattle.strips.specs.Tasks.{problem}
 use Rattle.strips.specs.Standing.{standing}
