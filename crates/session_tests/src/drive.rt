@@ -12,6 +12,7 @@ use session::session::Session;
 use settling::row::DocketRow;
 use std::alloc::Global;
 use std::process::Abort;
+use std::test::Fail;
 use strips::task::Task;
 
 // The session tells exactly the table, and half the result over the goal.

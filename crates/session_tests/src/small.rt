@@ -6,6 +6,7 @@ use queue::table::TableQueue;
 use rules::additive::AdditiveRule;
 use session::call::{Answer, Call};
 use session::session::Session;
+use std::test::Fail;
 
 // The number of a refused answer.
 fn refusal(answer: &Answer) -> Option<u8> {
