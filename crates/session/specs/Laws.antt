@@ -30,10 +30,10 @@ abbrev pub wrote_of : List DocketRow → Result ℕ SessionFault → Reply
 wrote_of docket (Ok n) = wrote (map row_of (take n docket))
 wrote_of docket (Err e) = refused (number_of e)
 
-module _ {R Q : Type 0} (result : R → Rule) (queue-sound : Q → Type 0) (pairs : Q → List (Option Figure)) where
+module _ {R Q : Type 0} (result : R → Rule) (queue_sound : Q → Type 0) (pairs : Q → List (Option Figure)) where
   -- the session is one that this past led to
   pub record Led (past : Past) (s : Session R Q) : Type 0 where
-    pub sound : Sound result queue-sound pairs s
+    pub sound : Sound result queue_sound pairs s
     pub facts : facts_of s ≡ past.facts
     pub settled : s.settled ≡ past.settled
     pub shown : Shown (task_of s) (result s.base.rule) past.shown (table (figures_of s))

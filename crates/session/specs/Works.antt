@@ -43,9 +43,9 @@ pub record On {R Q : Type 0} (pairs : Q → List (Option Figure)) (task : Task) 
   pub on_task : s.base.task ≡ task
   pub by_rule : s.base.rule ≡ rule
 
-module _ {R Q : Type 0} (result : R → Rule) (queue-sound : Q → Type 0) (pairs : Q → List (Option Figure)) where
+module _ {R Q : Type 0} (result : R → Rule) (queue_sound : Q → Type 0) (pairs : Q → List (Option Figure)) where
   -- whatever past led to s, each answer is right for the calls before it, and t is a session that this past and the calls lead to
   abbrev pub Working : Session R Q → List CallValue → List Answer → Session R Q → Type 0
   Working s calls answers t =
-      (past : Past) → Led result queue-sound pairs past s →
-      Rights (task_of s) (result s.base.rule) past (map call_of calls) (map reply_of answers) × Led result queue-sound pairs (ended (task_of s) past (map call_of calls)) t
+      (past : Past) → Led result queue_sound pairs past s →
+      Rights (task_of s) (result s.base.rule) past (map call_of calls) (map reply_of answers) × Led result queue_sound pairs (ended (task_of s) past (map call_of calls)) t

@@ -1,7 +1,7 @@
 // The calls of a session.
 ghost use Rattle.std.specs.Prelude.{◌≡◌, ℕ, ◌*◌, length, ◌≢◌};
 ghost use Rattle.model.specs.Strips.{items};
-ghost use Rattle.model.specs.Runs.Call.{enter as to-enter, strike as to-strike, settle as to-settle, figure as to-tell, goal as to-tell-goal};
+ghost use Rattle.model.specs.Runs.Call.{enter as to_enter, strike as to_strike, settle as to_settle, figure as to_tell, goal as to_tell_goal};
 ghost use Rattle.strips.specs.Standing.{standing};
 ghost use Rattle.strips.specs.Tasks.{problem};
 ghost use Rattle.session.specs.Sessions.{Sound, Moved, Entering, Striking, Settles, Docketing, figure_answer, goal_answer};
@@ -39,7 +39,7 @@ impl<R: CostRule, Q: Queue<Key = Figure>> Session<R, Q> {
     pub fn enter(&mut self, fact: u8) -> Result<bool, SessionFault>
         ensures answer { Entering self.old self.new fact result }
         ensures keeps { Sound R.CostRule.rule Q.Queue.sound Q.Queue.pairs self.old → Sound R.CostRule.rule Q.Queue.sound Q.Queue.pairs self.new }
-        ensures law { Goes R.CostRule.rule Q.Queue.sound Q.Queue.pairs self.old (to-enter fact) (told_of result) self.new }
+        ensures law { Goes R.CostRule.rule Q.Queue.sound Q.Queue.pairs self.old (to_enter fact) (told_of result) self.new }
     {
         if fact >= self.base.task.facts() {
             return Err(SessionFault::Unknown);
@@ -56,7 +56,7 @@ impl<R: CostRule, Q: Queue<Key = Figure>> Session<R, Q> {
     pub fn strike(&mut self, fact: u8) -> Result<bool, SessionFault>
         ensures answer { Striking self.old self.new fact result }
         ensures keeps { Sound R.CostRule.rule Q.Queue.sound Q.Queue.pairs self.old → Sound R.CostRule.rule Q.Queue.sound Q.Queue.pairs self.new }
-        ensures law { Goes R.CostRule.rule Q.Queue.sound Q.Queue.pairs self.old (to-strike fact) (told_of result) self.new }
+        ensures law { Goes R.CostRule.rule Q.Queue.sound Q.Queue.pairs self.old (to_strike fact) (told_of result) self.new }
     {
         if fact >= self.base.task.facts() {
             return Err(SessionFault::Unknown);
@@ -74,7 +74,7 @@ impl<R: CostRule, Q: Queue<Key = Figure>> Session<R, Q> {
         ensures answer { Settles self.old self.new docket.old docket.new result }
         ensures keeps { Sound R.CostRule.rule Q.Queue.sound Q.Queue.pairs self.old → Sound R.CostRule.rule Q.Queue.sound Q.Queue.pairs self.new }
         ensures figures { Sound R.CostRule.rule Q.Queue.sound Q.Queue.pairs self.old → Docketing R.CostRule.rule self.old self.new docket.new result }
-        ensures law { Goes R.CostRule.rule Q.Queue.sound Q.Queue.pairs self.old (to-settle (length docket.old)) (wrote_of docket.new result) self.new }
+        ensures law { Goes R.CostRule.rule Q.Queue.sound Q.Queue.pairs self.old (to_settle (length docket.old)) (wrote_of docket.new result) self.new }
     {
         if docket.len() < rows_needed(&self.base.task) {
             return Err(SessionFault::DocketShort);
@@ -87,7 +87,7 @@ impl<R: CostRule, Q: Queue<Key = Figure>> Session<R, Q> {
     // The figure of an item.
     pub fn figure(&self, item: usize) -> Result<Figure, SessionFault>
         ensures answer { result ≡ figure_answer self.now item }
-        ensures law { Goes R.CostRule.rule Q.Queue.sound Q.Queue.pairs self.now (to-tell item) (shown_of result) self.now }
+        ensures law { Goes R.CostRule.rule Q.Queue.sound Q.Queue.pairs self.now (to_tell item) (shown_of result) self.now }
     {
         if item >= self.held.as_slice().len() {
             return Err(SessionFault::Unknown);
@@ -101,7 +101,7 @@ impl<R: CostRule, Q: Queue<Key = Figure>> Session<R, Q> {
     // Half the rule's result over the goal.
     pub fn goal_figure(&self) -> Result<Figure, SessionFault>
         ensures answer { result ≡ goal_answer R.CostRule.rule self.now }
-        ensures law { Goes R.CostRule.rule Q.Queue.sound Q.Queue.pairs self.now to-tell-goal (shown_of result) self.now }
+        ensures law { Goes R.CostRule.rule Q.Queue.sound Q.Queue.pairs self.now to_tell_goal (shown_of result) self.now }
     {
         if !self.settled {
             return Err(SessionFault::Unsettled);

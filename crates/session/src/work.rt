@@ -2,7 +2,7 @@
 ghost use Rattle.std.specs.Prelude.{◌≡◌, ℕ, ◌+◌, ◌*◌, map, IfOk, vec_len, MatchResult};
 ghost use Rattle.model.specs.Strips.{items};
 ghost use Rattle.model.specs.Runs.{fresh, ended, Rights};
-ghost use Rattle.model.specs.Runs.Call.{settle as to-settle};
+ghost use Rattle.model.specs.Runs.Call.{settle as to_settle};
 ghost use Rattle.strips.specs.Tasks.{problem};
 ghost use Rattle.session.specs.Sessions.{task_of, Sound};
 ghost use Rattle.session.specs.Laws.{told_of, shown_of, Led, Goes};
@@ -47,7 +47,7 @@ impl<R: CostRule, Q: Queue<Key = Figure>> Session<R, Q> {
     fn settle_on(&mut self, docket: Vec<DocketRow>, rows: usize) -> Answer
         ensures base { self.new.base ≡ self.old.base }
         ensures keeps { Sound R.CostRule.rule Q.Queue.sound Q.Queue.pairs self.old → Sound R.CostRule.rule Q.Queue.sound Q.Queue.pairs self.new }
-        ensures law { vec_len docket ≡ 2 * items (task_of self.old) → Goes R.CostRule.rule Q.Queue.sound Q.Queue.pairs self.old (to-settle rows) (reply_of result) self.new }
+        ensures law { vec_len docket ≡ 2 * items (task_of self.old) → Goes R.CostRule.rule Q.Queue.sound Q.Queue.pairs self.old (to_settle rows) (reply_of result) self.new }
     {
         let mut lent = docket;
         lent.truncate(rows);

@@ -22,12 +22,12 @@ the_table p s = (one_table max_rule max_laws p s).0
 abbrev pub distance : Problem → State → ℕ
 distance p s = goal_figure max_rule p (the_table p s)
 
-module _ {R Q : Type 0} (result : R → Rule) (queue-sound : Q → Type 0) (pairs : Q → List (Option Figure)) where
+module _ {R Q : Type 0} (result : R → Rule) (queue_sound : Q → Type 0) (pairs : Q → List (Option Figure)) where
   -- calls lead from one session to another: what was sound is, and whatever led to the first leads with the calls to the second
   pub record Leads (s t : Session R Q) (calls : List Call) : Type 0 where
     pub base : t.base ≡ s.base
-    pub sound : Sound result queue-sound pairs s → Sound result queue-sound pairs t
-    pub led : (past : Past) → Led result queue-sound pairs past s → Led result queue-sound pairs (ended (task_of s) past calls) t
+    pub sound : Sound result queue_sound pairs s → Sound result queue_sound pairs t
+    pub led : (past : Past) → Led result queue_sound pairs past s → Led result queue_sound pairs (ended (task_of s) past calls) t
 
   -- fact f stands as b says, and no other has moved
   pub record Aligned (s t : Session R Q) (f : ℕ) (b : Bool) : Type 0 where
