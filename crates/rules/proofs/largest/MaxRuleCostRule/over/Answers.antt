@@ -9,7 +9,7 @@ pub loop-item-preserved : goal.loop-item-preserved
 loop-item-preserved c =
     let d = at_drop_more (λ l. max_rule (map (table c.args.figures.now) l)) c.args.items.now c.loop-item.item-index 0 c.loop-item-test.true in
     let u = max_laws.figure (map (table c.args.figures.now) (drop (c.loop-item.item-index + 1) c.args.items.now)) in
-    omega (arith, d, u, c.loop-item.invariant, c.larger_most.ensures, c.figure_at.ensures, rank_low c.figure_at.result)
+    omega (arith, d, u, c.loop-item.invariant, c.larger-most.ensures, c.figure_at.ensures, rank_low c.figure_at.result)
 
 pub returns : goal.returns
 returns c =
