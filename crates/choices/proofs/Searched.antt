@@ -2,8 +2,8 @@
 --
 --   empty_queue   a new queue is empty, with room for every row
 --   finds         what a search over such memory says
-use Rattle.std.proofs.Common.{◌≡◌, ℕ, zero, suc, ◌≤◌, min, true, List, length, take, replicate, Some, None, Ok, Err, Option, Result, sym, refl, ap, ◌∙◌, subst, arith}
-use Rattle.std.proofs.lemmas.List.{length-take-le, length-replicate}
+use Rattle.std.proofs.Common.{◌≡◌, ℕ, zero, suc, ◌≤◌, min, true, length, replicate, None, Ok, Err, Option, Result, sym, refl, ◌∙◌, subst, arith}
+use Rattle.std.proofs.lemmas.List.{length-take-le}
 use Rattle.model.specs.Strips.{Problem, State}
 use Rattle.queue.specs.declared.key.Pair.{Pair}
 use Rattle.queue.specs.Queues.{vacant}
@@ -12,9 +12,9 @@ use Rattle.search_law.specs.declared.outcome.Outcome.{Outcome}
 use Rattle.search_law.specs.declared.outcome.Outcome.TheVariants as outcome
 use Rattle.search_law.specs.declared.refusal.SearchRefusal.{SearchRefusal}
 use Rattle.search_law.specs.declared.refusal.SearchRefusal.TheVariants.{StateBeyond, QueueUnfit, RowsUnfit, EstimatorUnfit}
-use Rattle.search_law.specs.Law.{Searched, used_of}
+use Rattle.search_law.specs.Law.{Searched}
 use Rattle.search_law.specs.Refusals.{Memory, Accepted, QueueFits, RowsFit}
-use Rattle.choices.specs.Finding.{InRange, Searchable, Planned, Finds}
+use Rattle.choices.specs.Finding.{InRange, Searchable, Finds}
 
 pub empty_queue : (n : ℕ) → vacant (replicate {A = Option Pair} n None) ≡ true
 empty_queue zero = refl

@@ -1,5 +1,4 @@
-use Rattle.std.proofs.Common.{◌++◌, get_or, vec_items, sym, ap, ◌∙◌}
-use Rattle.std.specs.List.{flat_map}
+use Rattle.std.proofs.Common.{◌++◌, vec_items, ap, ◌∙◌}
 use Rattle.settling.specs.Holding.{row_of}
 use Rattle.wire.specs.Answers.{row_bytes}
 use Rattle.wire.proofs.Appending.{one_further, to_the_end, joined_map}
@@ -8,8 +7,8 @@ use Rattle.wire.proofs.answers.put_rows.Goals as goal
 pub loop-row-preserved : goal.loop-row-preserved
 loop-row-preserved c =
     let v = vec_items c.loop-row.bytes in
-    one_further (λ w. row_bytes (row_of w)) _ c.args.rows.now c.loop-row.row-index c.row-item.result v (vec_items c.put-row.new.bytes) c.loop-row-test.true c.loop-row.invariant
-    (c.in-ok-put-row.ensures ∙ ap (λ w. v ++ row_bytes (row_of w)) c.row-item.is)
+    one_further (λ w. row_bytes (row_of w)) _ c.args.rows.now c.loop-row.row-index c.row-item.result v (vec_items c.put_row.new.bytes) c.loop-row-test.true c.loop-row.invariant
+    (c.in_ok-put_row.ensures ∙ ap (λ w. v ++ row_bytes (row_of w)) c.row-item.is)
 
 pub returns : goal.returns
 returns c =

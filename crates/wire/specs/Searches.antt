@@ -1,7 +1,7 @@
 -- The result of a search in bytes. Assumes nothing.
 --
 --   search_bytes   a plan, no plan, rows full, or a refusal, in bytes
-use Rattle.std.specs.Prelude.{ℕ, List, [], ◌∷◌, ◌++◌, take, Ok, Err, Result}
+use Rattle.std.specs.Prelude.{ℕ, List, ◌∷◌, ◌++◌, take, Ok, Err, Result}
 use Rattle.std.specs.List.{flat_map}
 use Rattle.search_law.specs.declared.outcome.Outcome.{Outcome}
 use Rattle.search_law.specs.declared.outcome.Outcome.TheVariants.{Plan, NoPlan, RowsFull}

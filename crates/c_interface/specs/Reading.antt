@@ -4,7 +4,6 @@
 use Rattle.std.specs.Prelude.{◌≡◌, ℕ, ◌⊎◌, List, length}
 use Rattle.model.specs.Strips.{Problem}
 use Rattle.textspec.specs.Texts.{States, Fault, Faulty}
-use Rattle.c_interface.specs.declared.structs.TextFault.{TextFault}
 use Rattle.c_interface.specs.declared.structs.Sizes.{Sizes}
 use Rattle.c_interface.specs.Delivering.{none_at_fault}
 

@@ -1,4 +1,4 @@
-use Rattle.std.proofs.Common.{◌++◌, get_or, vec_items, sym, ap, ◌∙◌}
+use Rattle.std.proofs.Common.{◌++◌, vec_items, ap, ◌∙◌}
 use Rattle.std.specs.List.{flat_map}
 use Rattle.session.specs.Works.{reply_of}
 use Rattle.wire.specs.Answers.{reply_bytes}
@@ -11,8 +11,8 @@ loop-answer-init c = ap (λ t. t ++ flat_map (λ a. reply_bytes (reply_of a)) c.
 pub loop-answer-preserved : goal.loop-answer-preserved
 loop-answer-preserved c =
     let v = vec_items c.loop-answer.bytes in
-    one_further (λ a. reply_bytes (reply_of a)) _ c.args.answers.now c.loop-answer.answer-index c.answer-item.result v (vec_items c.put-answer.new.bytes) c.loop-answer-test.true c.loop-answer.invariant
-    (c.in-ok-put-answer.ensures ∙ ap (λ a. v ++ reply_bytes (reply_of a)) c.answer-item.is)
+    one_further (λ a. reply_bytes (reply_of a)) _ c.args.answers.now c.loop-answer.answer-index c.answer-item.result v (vec_items c.put_answer.new.bytes) c.loop-answer-test.true c.loop-answer.invariant
+    (c.in_ok-put_answer.ensures ∙ ap (λ a. v ++ reply_bytes (reply_of a)) c.answer-item.is)
 
 pub returns : goal.returns
 returns c =

@@ -6,7 +6,7 @@
 --   Begins       the bytes begin with those of a call, so many of them
 --   Unreadable   the bytes begin with those of no call
 --   Decoded      what reading bytes as calls answers
-use Rattle.std.specs.Prelude.{◌≡◌, ℕ, ◌<◌, ◌≤◌, List, [], ◌∷◌, ◌++◌, map, length, drop, ◌≢◌}
+use Rattle.std.specs.Prelude.{◌≡◌, ℕ, ◌<◌, ◌≤◌, List, [], ◌∷◌, ◌++◌, length, drop, ◌≢◌}
 use Rattle.std.specs.List.{flat_map, AllByRecursion}
 use Rattle.model.specs.Runs.{Call}
 use Rattle.model.specs.Runs.Call.{enter, strike, settle, figure, goal}
