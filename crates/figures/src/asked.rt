@@ -24,8 +24,16 @@ fn numbered(waiting: Waiting, number: u16) -> anyhow::Result<Call> {
     }
 }
 
-pub fn calls_of(rt: &HostRuntime) -> anyhow::Result<Vec<Call>> {
+// The calls, and by which rule they are to be worked.
+#[derive(Drop)]
+pub struct Asked {
+    pub by_max: bool,
+    pub calls: Vec<Call>,
+}
+
+pub fn asked_for(rt: &HostRuntime) -> anyhow::Result<Asked> {
     let mut calls = Vec::new(rt.alloc());
+    let mut by_max = false;
     let mut waiting = Waiting::Nothing;
     for argument in env::args(rt)?.skip(1) {
         let word = argument.as_str();
@@ -36,20 +44,23 @@ pub fn calls_of(rt: &HostRuntime) -> anyhow::Result<Vec<Call>> {
                 "figure" => waiting = Waiting::Figure,
                 "settle" => calls.push(Call::Settle(ROWS))?,
                 "goal" => calls.push(Call::Goal)?,
+                "--max" if calls.is_empty() => by_max = true,
                 _ => return Err(anyhow!(
-                    "calls: enter FACT, strike FACT, settle, figure ITEM, goal"
+                    "calls: enter FACT, strike FACT, settle, figure ITEM, goal; --max may come before them"
                 )),
             }
         } else {
             let Ok(number) = word.parse::<u16>() else {
-                return Err(anyhow!("after enter, strike and figure comes a number"));
+                return Err(anyhow!(
+                    "after enter, strike and figure comes a number from 0 to 65535"
+                ));
             };
             calls.push(numbered(waiting, number)?)?;
             waiting = Waiting::Nothing;
         }
     }
     match waiting {
-        Waiting::Nothing => Ok(calls),
+        Waiting::Nothing => Ok(Asked { by_max, calls }),
         _ => Err(anyhow!("the last call lacks its number")),
     }
 }

@@ -6,11 +6,13 @@ mod asked;
 mod words;
 
 use anyhow::anyhow;
-use asked::calls_of;
+use asked::asked_for;
 use figure::figure::Figure;
+use heap::heap::HeapQueue;
 use queue::queue::Queue;
-use queue::table::TableQueue;
 use rules::additive::AdditiveRule;
+use rules::largest::MaxRule;
+use rules::rule::CostRule;
 use session::call::Call;
 use session::session::Session;
 use std::env;
@@ -23,18 +25,26 @@ use words::tell;
 
 const HELP: &str = "figures: keeps the figures of a task up to date as facts come and go.
 
-usage: figures CALL.. < TASK
+usage: figures [--max] CALL.. < TASK
 calls: enter FACT, strike FACT, settle, figure ITEM, goal
 
-Reads a task text from standard input, opens a session by the additive rule and
-works the calls in turn. Items are the facts, then the actions. Tells each
-answer: whether the state changed, the rows that a settle wrote, a figure, or
-the number of a refusal. A figure is a number, or none for what is out of reach.";
+Reads a task text from standard input, opens a session by the additive rule, or
+with --max by the max rule, and works the calls in turn. Items are the facts,
+then the actions. Tells each answer: whether the state changed, the rows that a
+settle wrote, a figure, or the number of a refusal. A figure is a number, or
+none for what is out of reach. A refused text is told with the refusal's
+number, the line, the place and what is wrong. The status is 1 only where the
+job could not be done.";
 
-fn work(rt: &HostRuntime, task: Task, calls: &[Call]) -> anyhow::Result<()> {
+fn work<R: CostRule + Drop>(
+    rt: &HostRuntime,
+    task: Task,
+    rule: R,
+    calls: &[Call],
+) -> anyhow::Result<()> {
     let facts = usize::from(task.facts());
-    let queue: TableQueue<Figure> = TableQueue::new(rt.alloc(), task.item_count())?;
-    match Session::open_and_work(rt.alloc(), task, AdditiveRule, queue, calls) {
+    let queue: HeapQueue<Figure> = HeapQueue::new(rt.alloc(), task.item_count())?;
+    match Session::open_and_work(rt.alloc(), task, rule, queue, calls) {
         Ok(worked) => {
             for (call, answer) in calls.iter().zip(worked.1.iter()) {
                 tell(rt, facts, *call, answer)?;
@@ -56,11 +66,17 @@ fn run(rt: &HostRuntime) -> anyhow::Result<()> {
     if wants_help(rt)? {
         return Ok(println!(rt; "{HELP}")?);
     }
-    let calls = calls_of(rt)?;
+    let asked = asked_for(rt)?;
     let mut text = Vec::new(rt.alloc());
     rt.stdin().read_to_end(&mut text)?;
     match read_task(rt.alloc(), text.as_slice()) {
-        Ok(task) => work(rt, task, calls.as_slice()),
+        Ok(task) => {
+            if asked.by_max {
+                work(rt, task, MaxRule, asked.calls.as_slice())
+            } else {
+                work(rt, task, AdditiveRule, asked.calls.as_slice())
+            }
+        }
         Err(ReadFault::Text(fault)) => {
             let refusal = Refusal(fault);
             Ok(println!(rt; "{refusal}")?)

@@ -15,11 +15,29 @@ use textfault::fault::ReadFault;
 use wording::refusal::Refusal;
 use words::tell_verdict;
 
+const HELP: &str = "rehearse: tries lists of steps out on the start state of a task.
+
+usage: rehearse STEP.. [/ STEP..].. < TASK
+
+Reads a task text from standard input. A step is the number of an action; a /
+ends a list, and no steps at all are the empty list. Tells of each list whether
+it is a plan, or the first step that fails and its first missing fact, or the
+first goal fact that is missing after the last step, with the refusal's number.
+A refused text is told with the refusal's number, the line, the place and what
+is wrong. The status is 1 only where the job could not be done.";
+
 // An argument: a step, or the end of a list of steps.
 #[derive(Clone, Copy)]
 enum Word {
     Step(u16),
     Next,
+}
+
+fn wants_help(rt: &HostRuntime) -> anyhow::Result<bool> {
+    match env::args(rt)?.skip(1).next() {
+        Some(word) => Ok(word.as_str() == "--help"),
+        None => Ok(false),
+    }
 }
 
 fn arguments(rt: &HostRuntime) -> anyhow::Result<Vec<Word>> {
@@ -31,7 +49,7 @@ fn arguments(rt: &HostRuntime) -> anyhow::Result<Vec<Word>> {
             words.push(Word::Step(step))?;
         } else {
             return Err(anyhow!(
-                "usage: rehearse STEP.. [/ STEP..]..  with a step an action's number, and the task text on standard input"
+                "a step is a number from 0 to 65535, and / ends a list; --help tells more"
             ));
         }
     }
@@ -59,6 +77,9 @@ fn try_all(rt: &HostRuntime, task: &Task, words: &[Word]) -> anyhow::Result<()> 
 }
 
 fn run(rt: &HostRuntime) -> anyhow::Result<()> {
+    if wants_help(rt)? {
+        return Ok(println!(rt; "{HELP}")?);
+    }
     let words = arguments(rt)?;
     let mut text = Vec::new(rt.alloc());
     rt.stdin().read_to_end(&mut text)?;
