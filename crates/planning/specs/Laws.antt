@@ -7,7 +7,7 @@
 --   Answered      what an outcome says of plans from the start
 --   Used          what the number of rows used says
 --   PlannedLaw    the whole promise of planning
-use Rattle.std.specs.Prelude.{◌≡◌, ℕ, ◌+◌, ◌≤◌, List, [], ◌∷◌, length, vec_items}
+use Rattle.std.specs.Prelude.{◌≡◌, ℕ, ◌+◌, ◌≤◌, List, length, vec_items}
 use Rattle.figure.specs.declared.figure.Figure.{Figure}
 use Rattle.model.specs.Strips.{Problem, State, Plan, these}
 use Rattle.model.specs.Figures.{Rule, Table, additive_rule, max_rule, figure_of, equations, Solves, goal_figure}

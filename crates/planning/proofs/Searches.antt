@@ -1,5 +1,5 @@
 -- What a search from the start says, in the words of plans and states. Assumes nothing.
-use Rattle.std.proofs.Common.{◌≡◌, ℕ, ◌+◌, ◌<◌, ◌≤◌, true, false, ◌||◌, List, [], ◌∷◌, length, take, replicate, None, Ok, Err, Option, Result, sym, refl, ap, ◌∙◌, subst, arith}
+use Rattle.std.proofs.Common.{◌≡◌, ℕ, ◌+◌, ◌<◌, ◌≤◌, false, ◌||◌, List, [], ◌∷◌, length, take, replicate, None, Ok, Err, Option, Result, sym, refl, ap, ◌∙◌, subst, arith}
 use lib.ListN.{length-replicate}
 use Rattle.std.specs.List.{AllByRecursion}
 use Rattle.std.proofs.lemmas.Bool.{ne_eqb, true≢false}
@@ -13,7 +13,7 @@ use Rattle.search_law.specs.declared.outcome.Outcome.TheVariants.{Plan as Found,
 use Rattle.search_law.specs.declared.refusal.SearchRefusal.{SearchRefusal}
 use Rattle.search_law.specs.declared.refusal.SearchRefusal.TheVariants.{StateBeyond, QueueUnfit, RowsUnfit, EstimatorUnfit}
 use Rattle.search_law.specs.Views.{view}
-use Rattle.search_law.specs.Refusals.{Memory, QueueFits, RowsFit, Accepted, Refused}
+use Rattle.search_law.specs.Refusals.{Memory, Accepted, Refused}
 use Rattle.search_law.specs.Law.{used_of, Law, Searched}
 use Rattle.planning.specs.Premises.{Unrefused}
 use Rattle.planning.proofs.Figures.{vacant_new}

@@ -1,9 +1,9 @@
 -- What a fresh session's answers tell of the start. Assumes nothing.
-use Rattle.std.proofs.Common.{◌≡◌, ℕ, zero, suc, ◌-◌, ◌*◌, ◌<◌, ◌≤◌, Bool, true, false, cond, ltb, leb, List, [], ◌∷◌, map, length, get_or, replicate, None, Option, sym, refl, ap, ◌∙◌, subst, arith}
+use Rattle.std.proofs.Common.{◌≡◌, ℕ, zero, suc, ◌-◌, ◌*◌, ◌<◌, true, false, cond, ltb, leb, List, [], ◌∷◌, map, length, get_or, replicate, None, Option, sym, refl, ap, ◌∙◌, subst, arith}
 use lib.ListN.{length-replicate}
 use Rattle.std.proofs.lemmas.Bool.{le-ltb, le-leb, and_from}
 use Rattle.figure.specs.declared.figure.Figure.{Figure}
-use Rattle.model.specs.Strips.{Problem, Lawful, items, these}
+use Rattle.model.specs.Strips.{Problem, Lawful, items}
 use Rattle.model.specs.Figures.{Rule, figure_of, goal_figure}
 use Rattle.model.specs.Heuristics.{SetCost, OneCost, Agrees}
 use Rattle.model.specs.Runs.{Call, Reply, fresh, at_rest, Right, Rights, Tabled}
