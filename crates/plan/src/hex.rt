@@ -1,6 +1,6 @@
 // Answers in hexadecimal.
-use crate::answer::Planned;
 use figure::figure::Figure;
+use planning::planned::Planned;
 use search_law::outcome::Outcome;
 use textfault::fault::LoadFault;
 
@@ -19,7 +19,7 @@ pub fn tell_in_hex(rt: &HostRuntime, planned: &Planned) -> anyhow::Result<()> {
     match planned.outcome {
         Outcome::Plan { length, used: _ } => {
             print!(rt; "12{length:04x}")?;
-            for step in planned.steps.iter().take(length) {
+            for step in planned.steps.iter() {
                 print!(rt; "{step:04x}")?;
             }
             Ok(println!(rt; "")?)

@@ -1,15 +1,13 @@
 // Reads a task text from standard input and searches a shortest plan.
 #![tactic(auto)]
 
-mod answer;
 mod hex;
-mod planning;
 mod words;
 
-use answer::Planned;
 use anyhow::anyhow;
 use hex::{tell_fault_in_hex, tell_in_hex};
-use planning::plan;
+use planning::planned::Planned;
+use planning::planning::plan;
 use std::env;
 use std::io::Read;
 use tasktext::text::read_task;
@@ -66,7 +64,7 @@ fn respond(rt: &HostRuntime, in_words: bool) -> anyhow::Result<()> {
     rt.stdin().read_to_end(&mut text)?;
     match read_task(rt.alloc(), text.as_slice()) {
         Ok(task) => {
-            let Some(planned) = plan(rt.alloc(), &task) else {
+            let Ok(planned) = plan(rt.alloc(), &task) else {
                 return Err(anyhow!("no memory to plan"));
             };
             tell(rt, &planned, in_words)

@@ -1,5 +1,5 @@
 // Answers in words.
-use crate::answer::Planned;
+use planning::planned::Planned;
 use search_law::outcome::Outcome;
 use wording::words::Words;
 
@@ -10,7 +10,7 @@ pub fn tell_in_words(rt: &HostRuntime, planned: &Planned) -> anyhow::Result<()> 
     match planned.outcome {
         Outcome::Plan { length, used } => {
             print!(rt; "a shortest plan has {length} steps:")?;
-            for step in planned.steps.iter().take(length) {
+            for step in planned.steps.iter() {
                 print!(rt; " {step}")?;
             }
             Ok(println!(rt; " ({used} rows used)")?)

@@ -58,8 +58,7 @@ fn tell(rt: &HostRuntime, name: &str, task: &Task) -> anyhow::Result<()> {
 
 fn work(rt: &HostRuntime, name: &str) -> anyhow::Result<()> {
     let Ok(text) = fs::read(rt, name) else {
-        let told = format!(in rt.alloc(); "{name} cannot be read")?;
-        return Err(told.into());
+        return Err(anyhow!("{name} cannot be read"));
     };
     match read_task(rt.alloc(), text.as_slice()) {
         Ok(task) => tell(rt, name, &task),
