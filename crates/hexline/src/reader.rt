@@ -3,14 +3,9 @@ ghost use Rattle.std.specs.Prelude.{◌≡◌, ◌+◌, ◌-◌, ◌<◌, ◌≤
 ghost use Rattle.textspec.specs.Hex.{is_digit, DigitsBefore};
 ghost use Rattle.hexline.specs.Lines.{left, ReadLine};
 
+use crate::digits::{count_digits, is_digit};
 use crate::line::{Line, Reader};
 use textfault::fault::{LineFault, Place};
-
-fn is_digit(c: u8) -> bool
-    ensures { result ≡ is_digit c }
-{
-    48 <= c && c <= 57 || 97 <= c && c <= 102
-}
 
 impl<'a> Line<'a> {
     // The number of the line.
@@ -71,25 +66,14 @@ impl<'a> Reader<'a> {
         }
     }
 
-    fn at_digit(&self) -> bool
-        ensures { result ≡ is_digit (slice_index (left self.now) (self.now.column - 1)) }
-    {
-        match self.peek() {
-            Some(c) => is_digit(c),
-            None => false,
-        }
-    }
-
     // Goes to the first column that holds no digit, or to column 515.
     fn skip_digits(&mut self)
-        requires { self.old.column ≡ 1 }
         ensures same { (self.new.text.now ≡ self.old.text.now) × ((self.new.start ≡ self.old.start) × (self.new.line ≡ self.old.line)) }
         ensures before { DigitsBefore (left self.new) self.new.column }
         ensures stop { self.new.column < 515 → is_digit (slice_index (left self.new) (self.new.column - 1)) ≡ false }
     {
-        while self.column < 515 && self.at_digit() {
-            self.column += 1;
-        }
+        let text = self.text;
+        self.column = count_digits(&text[self.start..]) as u16 + 1;
     }
 
     // The next line, as the one of this number, or its first fault. A refused line stays the next one.
@@ -97,7 +81,6 @@ impl<'a> Reader<'a> {
         ensures { ReadLine number (left self.old) (left self.new) result }
     {
         self.line = number;
-        self.column = 1;
         self.skip_digits();
         let Some(c) = self.peek() else {
             return Err(LineFault::Early(self.place()));

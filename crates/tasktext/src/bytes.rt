@@ -5,11 +5,19 @@ ghost use Rattle.hexline.specs.Lines.{Sound, bytes_of};
 
 use hexline::line::Line;
 
+// What the bytes from 48 to 102 stand for as digits, sixteen a row; 0 for those that are none.
+static VALUES: [u8; 55] = *b"\
+    \x00\x01\x02\x03\x04\x05\x06\x07\x08\x09\x00\x00\x00\x00\x00\x00\
+    \x00\x00\x00\x00\x00\x00\x00\x00\x00\x00\x00\x00\x00\x00\x00\x00\
+    \x00\x00\x00\x00\x00\x00\x00\x00\x00\x00\x00\x00\x00\x00\x00\x00\
+    \x00\x0a\x0b\x0c\x0d\x0e\x0f";
+
+// By a table, since this is asked four times for each byte of a text.
 fn value(c: u8) -> u8
     requires { is_digit c ≡ true }
     ensures { (result ≡ value c) × (result < 16) }
 {
-    if c <= 57 { c - 48 } else { c - 87 }
+    VALUES[c as usize - 48]
 }
 
 // How many bytes the line states.

@@ -1,8 +1,9 @@
 // Which test a frame fails first.
-ghost use Rattle.std.specs.Prelude.{◌≡◌, ◌+◌, ◌-◌, ◌*◌, ◌<◌, true, false, length};
+ghost use Rattle.std.specs.Prelude.{◌≡◌, ℕ, ◌+◌, ◌-◌, ◌*◌, ◌<◌, true, false, List, length, if◌then◌else◌, Some, None, slice_index};
 ghost use Rattle.hexline.specs.Lines.{Sound, bytes_of};
 ghost use Rattle.textspec.specs.Refusals.{not_due, whole, out_of_bounds, follows, not_rising};
-ghost use Rattle.tasktext.specs.Framing.{Checked};
+ghost use Rattle.textspec.specs.First.{or_else};
+ghost use Rattle.tasktext.specs.Framing.{Checked, Begins};
 
 use crate::bytes::{byte, len};
 use hexline::line::Line;
@@ -48,11 +49,10 @@ fn whole(line: &Line<'_>, due: Due) -> bool
     }
 }
 
-fn out_of_bounds(line: &Line<'_>, due: Due, k: usize) -> bool
-    requires { (Sound line.now) × ((whole due (bytes_of line.now) ≡ true) × (k < length (bytes_of line.now))) }
+fn out_of_bounds(line: &Line<'_>, due: Due, k: usize, b: u8) -> bool
+    requires { (Sound line.now) × ((whole due (bytes_of line.now) ≡ true) × (b ≡ slice_index (bytes_of line.now) k)) }
     ensures { result ≡ out_of_bounds due (bytes_of line.now) k }
 {
-    let b = byte(line, k);
     match due {
         Due::Head => k == 1 && b == 0 || k == 2 && b as u16 * 256 + byte(line, 3) as u16 > 512,
         Due::Action(facts) => 1 <= k && k <= 3 && b > 16 || 4 <= k && b >= facts,
@@ -63,17 +63,35 @@ fn out_of_bounds(line: &Line<'_>, due: Due, k: usize) -> bool
     }
 }
 
-fn follows(line: &Line<'_>, due: Due, k: usize) -> bool
+// Where the second and the third list of an action's frame begin; of no account for other frames.
+#[derive(Clone, Copy)]
+struct Starts {
+    add: usize,
+    del: usize,
+}
+
+fn starts_of(line: &Line<'_>, due: Due) -> Starts
     requires { (Sound line.now) × (whole due (bytes_of line.now) ≡ true) }
-    ensures { result ≡ follows due (bytes_of line.now) k }
+    ensures { Begins due (bytes_of line.now) result.add result.del }
+{
+    match due {
+        Due::Action(_) => {
+            let add = 4 + byte(line, 1) as usize;
+            Starts {
+                add,
+                del: add + byte(line, 2) as usize,
+            }
+        }
+        _ => Starts { add: 0, del: 0 },
+    }
+}
+
+fn follows(due: Due, starts: Starts, k: usize) -> bool
+    ensures { (b : List ℕ) → Begins due b starts.add starts.del → result ≡ follows due b k }
 {
     match due {
         Due::Head => false,
-        Due::Action(_) => {
-            let add = 4 + byte(line, 1) as usize;
-            let del = add + byte(line, 2) as usize;
-            k > 4 && k != add && k != del
-        }
+        Due::Action(_) => k > 4 && k != starts.add && k != starts.del,
         Due::Goal(_) => k > 2,
         Due::Start(_) => k > 2,
         Due::End => false,
@@ -81,14 +99,57 @@ fn follows(line: &Line<'_>, due: Due, k: usize) -> bool
     }
 }
 
-fn not_rising(line: &Line<'_>, due: Due, k: usize) -> bool
-    requires { (Sound line.now) × ((whole due (bytes_of line.now) ≡ true) × (k < length (bytes_of line.now))) }
-    ensures { result ≡ not_rising due (bytes_of line.now) k }
+// The first byte that does not rise: one found before, or else byte k, if it is not above the one before it in its list.
+fn first_fall(
+    found: Option<usize>,
+    due: Due,
+    starts: Starts,
+    k: usize,
+    before: u8,
+    b: u8,
+) -> Option<usize>
+    ensures { (bytes : List ℕ) → Begins due bytes starts.add starts.del → before ≡ slice_index bytes (k - 1) → b ≡ slice_index bytes k → result ≡ or_else found (if not_rising due bytes k then Some k else None) }
 {
-    if k == 0 {
-        return false;
+    match found {
+        Some(at) => Some(at),
+        None => {
+            if b <= before && follows(due, starts, k) {
+                Some(k)
+            } else {
+                None
+            }
+        }
     }
-    follows(line, due, k) && byte(line, k) <= byte(line, k - 1)
+}
+
+// Whether each number of a whole frame is within bounds and each list rises.
+fn check_bytes(line: &Line<'_>, due: Due) -> Result<(), FrameFault>
+    requires sound { Sound line.now }
+    requires due { not_due due (bytes_of line.now) ≡ false }
+    requires whole { whole due (bytes_of line.now) ≡ true }
+    ensures { Checked due line.now result }
+{
+    let starts = starts_of(line, due);
+    let mut before = byte(line, 0);
+    let mut fall = None;
+    for k in 0..len(line) {
+        let b = byte(line, k);
+        if out_of_bounds(line, due, k, b) {
+            return Err(FrameFault::Bounds(Place {
+                line: line.number(),
+                at: k as u16,
+            }));
+        }
+        fall = first_fall(fall, due, starts, k, before, b);
+        before = b;
+    }
+    match fall {
+        Some(at) => Err(FrameFault::Rising(Place {
+            line: line.number(),
+            at: at as u16,
+        })),
+        None => Ok(()),
+    }
 }
 
 // Whether the line states the frame that is due, or its fault.
@@ -109,21 +170,5 @@ pub(crate) fn check(line: &Line<'_>, due: Due) -> Result<(), FrameFault>
             at: count as u16,
         }));
     }
-    for k in 0..count {
-        if out_of_bounds(line, due, k) {
-            return Err(FrameFault::Bounds(Place {
-                line: line.number(),
-                at: k as u16,
-            }));
-        }
-    }
-    for j in 0..count {
-        if not_rising(line, due, j) {
-            return Err(FrameFault::Rising(Place {
-                line: line.number(),
-                at: j as u16,
-            }));
-        }
-    }
-    Ok(())
+    check_bytes(line, due)
 }

@@ -28,3 +28,15 @@ first_none_at p (suc n) k e l =
     split (Some x) b n e = let z : ◌≡◌ {A = ℕ} 0 1 = cc in absurd (omega arith)
     split None true n e = let z : ◌≡◌ {A = ℕ} 0 1 = cc in absurd (omega arith)
     split None false n e = (refl, refl)
+
+pub first_below : (p : ℕ → Bool) (n k : ℕ) → first p n ≡ Some k → k < n
+first_below p zero k e = let z : ◌≡◌ {A = ℕ} 0 1 = cc in absurd (omega arith)
+first_below p (suc n) k e = found (first p n) (λ x q. first_below p n x q) e
+  where
+    here : (b : Bool) → cond b (Some n) None ≡ Some k → k < suc n
+    here true e = let q : n ≡ k = cc in omega arith
+    here false e = let z : ◌≡◌ {A = ℕ} 0 1 = cc in absurd (omega arith)
+
+    found : (o : Option ℕ) → ((x : ℕ) → o ≡ Some x → x < n) → or_else o (cond (p n) (Some n) None) ≡ Some k → k < suc n
+    found (Some x) below e = let l = below x refl in let h : x ≡ k = cc in omega arith
+    found None below e = here (p n) e

@@ -1,16 +1,17 @@
-use Rattle.std.proofs.Common.{◌-◌, ◌<◌, length, sym, arith, length-drop}
+use Rattle.std.proofs.Common.{◌≡◌, ◌+◌, ◌-◌, get_or, sym, refl, ap, ◌∙◌, arith}
+use Rattle.std.proofs.lemmas.List.{take_rest}
+use Rattle.textspec.specs.Hex.{is_digit}
 use Rattle.hexline.specs.Lines.{left}
-use Rattle.textspec.proofs.Hexes.{digit_within, before_more}
 use Rattle.hexline.proofs.line.Reader.skip_digits.Goals as goal
 
-pub invariant_of-self : goal.invariant_of-self
-invariant_of-self c =
-    let s = c.loop-self.self in
-    let w : s.column - 1 < length (left s) = digit_within (left s) (s.column - 1) (sym c.if-at_digit.ensures) in
-    let l = length-drop s.start s.text.now in
-    record { first = omega arith; last = omega arith; within = omega arith }
-
-pub loop-self-preserved : goal.loop-self-preserved
-loop-self-preserved c =
-    let s = c.loop-self.self in
-    (c.loop-self.invariant.0, c.loop-self.invariant.1, c.loop-self.invariant.2, before_more (left s) s.column s.first c.loop-self.invariant.3 (sym c.if-at_digit.ensures))
+pub returns : goal.returns
+returns c =
+    let s = c.args.self.now in
+    let n = c.count_digits.result in
+    let rest = take_rest s.text.now s.start in
+    let back : n + 1 - 1 ≡ n = omega arith in
+    record {
+      same = (refl, (refl, refl));
+      before = λ k h. ap (λ ds. is_digit (get_or ds k 0)) (sym rest) ∙ c.count_digits.ensures.before k h;
+      stop = λ h. ap (λ k. is_digit (get_or (left s) k 0)) back ∙ ap (λ ds. is_digit (get_or ds n 0)) (sym rest) ∙ c.count_digits.ensures.stop (omega arith);
+    }

@@ -3,7 +3,7 @@ use Rattle.hexline.specs.Lines.{bytes_of}
 use Rattle.textspec.specs.declared.due.Due.TheVariants.{Action}
 use Rattle.textspec.specs.Refusals.{whole}
 use Rattle.textspec.proofs.Refused.{action_whole}
-use Rattle.tasktext.proofs.check.follows.Goals as goal
+use Rattle.tasktext.proofs.check.starts_of.Goals as goal
 
 pub byte-requires : goal.byte-requires
 byte-requires c =
