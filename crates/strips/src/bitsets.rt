@@ -1,5 +1,6 @@
 // Sets of 256 numbers, by word operations.
-ghost use Rattle.std.specs.Prelude.{◌≡◌, [], Decides};
+ghost use Rattle.std.specs.Prelude.{◌≡◌, [], Decides, nat_eq};
+ghost use Rattle.std.specs.Cmp.Lexicographic.{pointwise};
 ghost use Rattle.std.specs.List.{AllByRecursion};
 ghost use Rattle.model.specs.Strips.{Stands, these, entered, struck, changed};
 ghost use Rattle.model.specs.Rehearsals.{lacking};
@@ -44,7 +45,7 @@ impl BitSet {
     }
 
     pub(crate) fn same(&self, other: &BitSet) -> bool
-        ensures words { Decides result (self.now.words ≡ other.now.words) }
+        ensures value { result ≡ pointwise nat_eq self.now.words other.now.words }
         ensures members { Decides result (members self.now ≡ members other.now) }
     {
         for i in 0..4 {
