@@ -8,8 +8,8 @@ mod words;
 use anyhow::anyhow;
 use asked::asked_for;
 use figure::figure::Figure;
-use heap::heap::HeapQueue;
 use queue::queue::Queue;
+use queue::table::TableQueue;
 use rules::additive::AdditiveRule;
 use rules::largest::MaxRule;
 use rules::rule::CostRule;
@@ -43,7 +43,7 @@ fn work<R: CostRule + Drop>(
     calls: &[Call],
 ) -> anyhow::Result<()> {
     let facts = usize::from(task.facts());
-    let queue: HeapQueue<Figure> = HeapQueue::new(rt.alloc(), task.item_count())?;
+    let queue: TableQueue<Figure> = TableQueue::new(rt.alloc(), task.item_count())?;
     match Session::open_and_work(rt.alloc(), task, rule, queue, calls) {
         Ok(worked) => {
             for (call, answer) in calls.iter().zip(worked.1.iter()) {
