@@ -15,28 +15,14 @@ pub struct TableQueue<K: Key> {
     cells: Vec<Option<K>>,
 }
 
-// A table in which no item has a key.
-fn blank<K: Key>(heap: Global, length: usize) -> Result<Vec<Option<K>>, AllocError>
-    ensures { IfOk result (λ v. v.items ≡ replicate length None) }
-{
-    let mut cells = Vec::new(heap);
-    cells.resize(length, None)?;
-    Ok(cells)
-}
-
 // The better of the best so far and one more.
 fn better<K: Key>(best: Option<(usize, K)>, item: usize, key: K) -> Option<(usize, K)>
     ensures { Better K.Key.leq best item key result }
 {
-    match best {
-        Some(found) => {
-            if found.1.at_most(key) {
-                Some(found)
-            } else {
-                Some((item, key))
-            }
-        }
-        None => Some((item, key)),
+    if best.is_some_and(|found| found.1.at_most(key)) {
+        best
+    } else {
+        Some((item, key))
     }
 }
 
@@ -47,10 +33,9 @@ fn find<K: Key>(cells: &[Option<K>]) -> Option<(usize, K)>
     ensures least { Smallest K.Key.leq cells.now result }
 {
     let mut best = None;
-    for i in 0..cells.len() {
-        let cell = cells[i];
-        if let Some(key) = cell {
-            best = better(best, i, key);
+    for (item, cell) in cells.iter().enumerate() {
+        if let Some(key) = *cell {
+            best = better(best, item, key);
         }
     }
     best
@@ -67,7 +52,7 @@ impl<K: Key> Queue for TableQueue<K> {
     ghost bounded = { Prim.search rules };
 
     fn new(heap: Global, capacity: usize) -> Result<TableQueue<K>, AllocError> {
-        let cells = blank(heap, capacity)?;
+        let cells = vec![in heap; None; capacity]?;
         Ok(TableQueue { cells })
     }
 
@@ -80,37 +65,25 @@ impl<K: Key> Queue for TableQueue<K> {
     }
 
     fn holds(&self, item: usize) -> bool {
-        if item < self.cells.len() {
-            self.cells[item].is_some()
-        } else {
-            false
-        }
+        matches!(self.cells.get(item), Some(Some(_)))
     }
 
     fn put(&mut self, item: usize, key: K) -> Result<(), QueueRefusal> {
-        if item >= self.cells.len() {
-            return Err(QueueRefusal::Beyond);
-        }
-        self.cells[item] = Some(key);
+        let cell = self.cells.get_mut(item).ok_or(QueueRefusal::Beyond)?;
+        *cell = Some(key);
         Ok(())
     }
 
     fn drop_item(&mut self, item: usize) -> bool {
-        if item >= self.cells.len() {
-            return false;
+        match self.cells.get_mut(item) {
+            Some(cell) => cell.take().is_some(),
+            None => false,
         }
-        let was = self.cells[item].is_some();
-        self.cells[item] = None;
-        was
     }
 
     fn take(&mut self) -> Option<(usize, K)> {
-        match find(&self.cells) {
-            Some(pair) => {
-                self.cells[pair.0] = None;
-                Some(pair)
-            }
-            None => None,
-        }
+        let pair = find(&self.cells)?;
+        self.cells[pair.0] = None;
+        Some(pair)
     }
 }

@@ -5,22 +5,22 @@ use Rattle.queue.proofs.Scans.{found_skip, found_more, found_front, found_some, 
 use Rattle.queue.proofs.table.find.Goals.{in-Some, in_default}
 use Rattle.queue.proofs.table.find.Goals as goal
 
-pub loop-i-preserved : goal.loop-i-preserved
-loop-i-preserved g c =
+pub loop-item-preserved : goal.loop-item-preserved
+loop-item-preserved g c =
     let t = c.args.cells.now in
-    let i = c.loop-i.i in
+    let i = c.loop-item.item in
     let leq = g.K.Key.leq in
-    let read = sym (get_or_read t i c.index-cells-i.result c.loop-i-test.true c.index-cells-i.is None) in
+    let read = sym (get_or_read t i c.index-cells-item.result c.loop-item-test.true c.index-cells-item.is None) in
     elim c.match-cell.branch [
-      | in-Some w ↦ subst (Found leq t (i + 1)) (sym w.best-is) (found_more g.met.K.Key.orders t i _ _ _ (read ∙ w.in-Some.is) c.loop-i.invariant w.better-best.ensures)
-      | in_default w ↦ subst (Found leq t (i + 1)) (sym w.best-is) (found_skip leq t i _ (read ∙ w.in_default.is) c.loop-i.invariant)
+      | in-Some w ↦ subst (Found leq t (i + 1)) (sym w.best-is) (found_more g.met.K.Key.orders t i _ _ _ (read ∙ w.in-Some.is) c.loop-item.invariant w.better-best.ensures)
+      | in_default w ↦ subst (Found leq t (i + 1)) (sym w.best-is) (found_skip leq t i _ (read ∙ w.in_default.is) c.loop-item.invariant)
     ]
 
 pub returns : goal.returns
 returns g c =
     let t = c.args.cells.now in
     let leq = g.K.Key.leq in
-    let r = c.loop-i.best in
-    let e : c.loop-i.i ≡ length t = omega arith in
-    let f : Found leq t (length t) r = subst (λ n. Found leq t n r) e c.loop-i.invariant in
+    let r = c.loop-item.best in
+    let e : c.loop-item.item ≡ length t = omega arith in
+    let f : Found leq t (length t) r = subst (λ n. Found leq t n r) e c.loop-item.invariant in
     record { found = found_front leq t r f; some = found_some leq t r f; least = found_least leq t r f }
