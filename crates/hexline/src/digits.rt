@@ -35,10 +35,5 @@ pub(crate) fn count_digits(text: &[u8]) -> usize
     ensures before { DigitsBefore text.now (result + 1) }
     ensures stop { result < 514 → is_digit (slice_index text.now result) ≡ false }
 {
-    let end = text.len().min(514);
-    let mut count = 0;
-    while count < end && is_digit(text[count]) {
-        count += 1;
-    }
-    count
+    text.iter().take(514).take_while(|c| is_digit(**c)).count()
 }

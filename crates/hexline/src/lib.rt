@@ -3,4 +3,3 @@
 
 mod digits;
 pub mod line;
-pub mod reader;

@@ -7,14 +7,14 @@ ghost use Rattle.textfault.specs.declared.fault.ReadFault.TheVariants.{Memory, T
 use std::alloc::AllocError;
 
 // Where a fault is: the line from 1, and the column from 1 or the byte from 0.
-#[derive(Clone, Copy)]
+#[derive(Clone, Copy, Debug, PartialEq, Eq)]
 pub struct Place {
     pub line: u16,
     pub at: u16,
 }
 
 // What is wrong with the digits of a line.
-#[derive(Clone, Copy)]
+#[derive(Clone, Copy, Debug, PartialEq, Eq)]
 pub enum LineFault {
     // 1: a bad digit, or the end of an odd or empty line.
     Digit(Place),
@@ -25,7 +25,7 @@ pub enum LineFault {
 }
 
 // Why a line is not the frame that is due.
-#[derive(Clone, Copy)]
+#[derive(Clone, Copy, Debug, PartialEq, Eq)]
 pub enum FrameFault {
     // The line's digits are at fault.
     Line(LineFault),
@@ -48,7 +48,7 @@ impl From<LineFault> for FrameFault {
 }
 
 // Why a load takes no line, or is not closed.
-#[derive(Clone, Copy)]
+#[derive(Clone, Copy, Debug, PartialEq, Eq)]
 pub enum LoadFault {
     // The next line is not the frame that is due.
     Frame(FrameFault),
@@ -65,7 +65,7 @@ impl From<FrameFault> for LoadFault {
 }
 
 // Why a whole text is not read.
-#[derive(Clone, Copy)]
+#[derive(Clone, Copy, Debug, PartialEq, Eq)]
 pub enum ReadFault {
     // No load could be begun.
     Memory,

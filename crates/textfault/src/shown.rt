@@ -4,47 +4,49 @@ ghost use Rattle.textfault.specs.Shown.{line_shown, frame_shown, load_shown};
 
 use crate::fault::{FrameFault, LineFault, LoadFault, Place};
 
-fn line_number(fault: LineFault) -> u8
-    ensures { result ≡ (line_shown fault).number }
-{
-    match fault {
-        LineFault::Digit(_) => 1,
-        LineFault::Long(_) => 2,
-        LineFault::Early(_) => 7,
+impl LineFault {
+    fn number(self) -> u8
+        ensures { result ≡ (line_shown self).number }
+    {
+        match self {
+            LineFault::Digit(_) => 1,
+            LineFault::Long(_) => 2,
+            LineFault::Early(_) => 7,
+        }
+    }
+
+    fn place(self) -> Place
+        ensures { (result.line ≡ (line_shown self).line) × (result.at ≡ (line_shown self).place) }
+    {
+        match self {
+            LineFault::Digit(place) | LineFault::Long(place) | LineFault::Early(place) => place,
+        }
     }
 }
 
-fn line_place(fault: LineFault) -> Place
-    ensures { (result.line ≡ (line_shown fault).line) × (result.at ≡ (line_shown fault).place) }
-{
-    match fault {
-        LineFault::Digit(place) => place,
-        LineFault::Long(place) => place,
-        LineFault::Early(place) => place,
+impl FrameFault {
+    fn number(self) -> u8
+        ensures { result ≡ (frame_shown self).number }
+    {
+        match self {
+            FrameFault::Line(fault) => fault.number(),
+            FrameFault::NotDue(_) => 3,
+            FrameFault::Length(_) => 4,
+            FrameFault::Bounds(_) => 5,
+            FrameFault::Rising(_) => 6,
+        }
     }
-}
 
-fn frame_number(fault: FrameFault) -> u8
-    ensures { result ≡ (frame_shown fault).number }
-{
-    match fault {
-        FrameFault::Line(inner) => line_number(inner),
-        FrameFault::NotDue(_) => 3,
-        FrameFault::Length(_) => 4,
-        FrameFault::Bounds(_) => 5,
-        FrameFault::Rising(_) => 6,
-    }
-}
-
-fn frame_place(fault: FrameFault) -> Place
-    ensures { (result.line ≡ (frame_shown fault).line) × (result.at ≡ (frame_shown fault).place) }
-{
-    match fault {
-        FrameFault::Line(inner) => line_place(inner),
-        FrameFault::NotDue(place) => place,
-        FrameFault::Length(place) => place,
-        FrameFault::Bounds(place) => place,
-        FrameFault::Rising(place) => place,
+    fn place(self) -> Place
+        ensures { (result.line ≡ (frame_shown self).line) × (result.at ≡ (frame_shown self).place) }
+    {
+        match self {
+            FrameFault::Line(fault) => fault.place(),
+            FrameFault::NotDue(place)
+            | FrameFault::Length(place)
+            | FrameFault::Bounds(place)
+            | FrameFault::Rising(place) => place,
+        }
     }
 }
 
@@ -54,7 +56,7 @@ impl LoadFault {
         ensures { result ≡ (load_shown self).number }
     {
         match self {
-            LoadFault::Frame(inner) => frame_number(inner),
+            LoadFault::Frame(fault) => fault.number(),
             LoadFault::Early(_) => 7,
         }
     }
@@ -64,7 +66,7 @@ impl LoadFault {
         ensures { (result.line ≡ (load_shown self).line) × (result.at ≡ (load_shown self).place) }
     {
         match self {
-            LoadFault::Frame(inner) => frame_place(inner),
+            LoadFault::Frame(fault) => fault.place(),
             LoadFault::Early(place) => place,
         }
     }

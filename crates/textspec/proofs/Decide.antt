@@ -50,9 +50,9 @@ module _ (xs : List ℕ) (s : Stop xs) where
       let l = length_bytes (take n xs) in
       record {
         bytes = bytes (take n xs);
-        rest = drop (0 + n + 1) xs;
+        rest = drop (n + 1) xs;
         line = record {
-          is = line_there xs 0 n (omega arith) (omega arith) all end;
+          is = line_there xs n (omega arith) (omega arith) all end;
           sized = record { some = omega arith; few = omega arith; small = bytes_small (take n xs) all };
         };
       }

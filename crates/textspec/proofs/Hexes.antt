@@ -1,8 +1,8 @@
 -- Digits and bytes.
-use Rattle.std.proofs.Common.{◌≡◌, ℕ, zero, suc, ◌+◌, ◌-◌, ◌*◌, ◌/◌, ◌%◌, ◌<◌, ◌≤◌, true, ◌&&◌, List, [], ◌∷◌, ◌++◌, length, get_or, take, drop, sym, refl, ap, ◌∙◌, ⊎_elim, arith, length-drop, length-take}
+use Rattle.std.proofs.Common.{◌≡◌, ℕ, zero, suc, ◌+◌, ◌-◌, ◌*◌, ◌/◌, ◌%◌, ◌<◌, ◌≤◌, true, ◌&&◌, List, [], ◌∷◌, ◌++◌, length, get_or, take, drop, sym, refl, ap, ◌∙◌, ⊎_elim, arith, length-take}
 use Rattle.std.proofs.lemmas.Bool.{and_parts, and_from, cases_lt, false≢true}
 use Rattle.std.proofs.lemmas.Bool.Decides.{nat_tests}
-use Rattle.std.proofs.lemmas.List.{drop_more, drop-drop, take-append-drop, get_or_past}
+use Rattle.std.proofs.lemmas.List.{drop_more, take-append-drop, get_or_past}
 use Rattle.textspec.specs.Hex.{is_digit, value, digit, hex, bytes, digits_only, DigitsBefore}
 
 pub length_bytes : (ds : List ℕ) → length (bytes ds) ≡ length ds / 2
@@ -51,17 +51,13 @@ taken xs zero h = refl
 taken [] (suc n) h = refl
 taken (x ∷ xs) (suc n) h = and_from _ _ (h 0 (omega arith)) (taken xs n (λ k l. h (suc k) (omega arith)))
 
--- a line of n digits at p
-pub line_there : (text : List ℕ) (p n : ℕ) → p + n < length text → n % 2 ≡ 0 → digits_only (take n (drop p text)) ≡ true → get_or (drop p text) n 0 ≡ 10
-    → drop p text ≡ hex (bytes (take n (drop p text))) ++ 10 ∷ drop (p + n + 1) text
-line_there text p n h even all end =
-    let xs = drop p text in
+-- a line of n digits
+pub line_there : (xs : List ℕ) (n : ℕ) → n < length xs → n % 2 ≡ 0 → digits_only (take n xs) ≡ true → get_or xs n 0 ≡ 10
+    → xs ≡ hex (bytes (take n xs)) ++ 10 ∷ drop (n + 1) xs
+line_there xs n h even all end =
     let e1 : take n xs ++ drop n xs ≡ xs = take-append-drop n xs in
-    let e2 : drop n xs ≡ get_or xs n 0 ∷ drop (n + 1) xs = drop_more xs n 0 (omega (arith, length-drop p text)) in
-    let e3 : drop (n + 1) xs ≡ drop (p + (n + 1)) text = drop-drop (n + 1) p text in
-    let e4 : p + (n + 1) ≡ p + n + 1 = omega arith in
-    let e5 : drop (p + (n + 1)) text ≡ drop (p + n + 1) text = ap (λ k. drop k text) e4 in
-    let e6 : hex (bytes (take n xs)) ≡ take n xs = hex_bytes (take n xs) all (omega (arith, length-take n xs, length-drop p text)) in
+    let e2 : drop n xs ≡ get_or xs n 0 ∷ drop (n + 1) xs = drop_more xs n 0 h in
+    let e3 : hex (bytes (take n xs)) ≡ take n xs = hex_bytes (take n xs) all (omega (arith, length-take n xs)) in
     cc
 
 pub digit_within : (xs : List ℕ) (k : ℕ) → is_digit (get_or xs k 0) ≡ true → k < length xs

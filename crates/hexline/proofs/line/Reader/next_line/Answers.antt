@@ -1,30 +1,36 @@
-use Rattle.std.proofs.Common.{◌≡◌, ◌+◌, ◌-◌, ◌%◌, ◌≤◌, true, ◌∷◌, ◌++◌, length, get_or, take, drop, sym, refl, ap, ◌∙◌, arith, length-drop, length-take}
+use Rattle.std.proofs.Common.{◌≡◌, ◌+◌, ◌%◌, ◌<◌, true, ◌∷◌, ◌++◌, length, get_or, take, drop, refl, sym, ap, ◌∙◌, arith, length-take}
+use Rattle.std.proofs.lemmas.List.{take_rest}
+use Rattle.std.proofs.lemmas.Bool.{ltb-true}
+use Rattle.std.proofs.lemmas.Grind.{get_or_default_zero}
 use Rattle.textspec.specs.Hex.{digits_only, hex, bytes}
-use Rattle.hexline.specs.Lines.{left}
 use Rattle.textspec.proofs.Hexes.{taken, line_there, length_bytes, bytes_small}
 use Rattle.hexline.proofs.line.Reader.next_line.Goals as goal
 
-pub invariant_of-self-then-c-eq10 : goal.invariant_of-self-then-c-eq10
-invariant_of-self-then-c-eq10 c =
-    let s = c.skip_digits.new.self in
-    let l = length-drop s.start s.text.now in
-    record { first = omega arith; last = omega arith; within = omega (arith, c.in-Some.ensures.0) }
-
-pub returns-then-c-eq10 : goal.returns-then-c-eq10
-returns-then-c-eq10 c =
-    let s = c.skip_digits.new.self in
-    let n = s.column - 1 in
-    let text = s.text.now in
-    let xs = drop s.start text in
-    let l = length-drop s.start text in
-    let e : s.start + n - s.start ≡ n = omega arith in
-    let even : n % 2 ≡ 0 = omega arith in
-    let all : digits_only (take n xs) ≡ true = taken xs n (λ k h. c.skip_digits.ensures.before k (omega arith)) in
-    let end : get_or xs n 0 ≡ 10 = sym c.in-Some.ensures.1 ∙ c.if-c-eq10.true in
+pub invariant_of-result : goal.invariant_of-result
+invariant_of-result c =
+    let n = c.count_digits-count.result in
+    let xs = c.args.self.now.text.now in
     let size = length-take n xs in
-    let inside : s.column ≤ length (left s) = c.in-Some.ensures.0 in
-    let begin : left c.args.self.now ≡ xs = let p = c.skip_digits.ensures.same.0 in let q = c.skip_digits.ensures.same.1 in cc in (
-      record { hex = ap (λ k. digits_only (take k xs)) e ∙ all; even = ap (λ k. length (take k xs) % 2) e ∙ omega arith; some = rw e (omega arith); few = rw e (omega arith) },
+    record {
+      hex = taken xs n (λ k h. c.count_digits-count.ensures.before k (omega arith));
+      even = omega arith;
+      some = omega arith;
+      few = omega arith;
+    }
+
+pub returns-in-Some-eq10 : goal.returns-in-Some-eq10
+returns-in-Some-eq10 c =
+    let n = c.count_digits-count.result in
+    let xs = c.args.self.now.text.now in
+    let ds = take n xs in
+    let size = length-take n xs in
+    let all : digits_only ds ≡ true = taken xs n (λ k h. c.count_digits-count.ensures.before k (omega arith)) in
+    let found = c.in-Some-eq10.ensures.lookup in
+    let inside : n < length xs = ltb-true n (length xs) (sym found.0) in
+    let end : get_or xs n 0 ≡ 10 = sym (found.1 ∙ get_or_default_zero xs n _ inside) ∙ c.in-Some-eq10.field-0-test in (
       refl,
-      record { is = begin ∙ line_there text s.start n (omega arith) even all end ∙ ap (λ k. hex (bytes (take k xs)) ++ 10 ∷ drop (s.start + n + 1) text) (sym e); sized = record { some = rw e (omega (arith, length_bytes (take n xs))); few = rw e (omega (arith, length_bytes (take n xs))); small = rw e (bytes_small (take n xs) all) } },
+      record {
+        is = line_there xs n inside c.if-count-eq0.true all end ∙ ap (λ rest. hex (bytes ds) ++ 10 ∷ rest) (sym (take_rest xs (n + 1)));
+        sized = record { some = omega (arith, length_bytes ds); few = omega (arith, length_bytes ds); small = bytes_small ds all };
+      },
     )
