@@ -1,12 +1,16 @@
 -- The lists that the indexes are built of. Assumes nothing.
-use Rattle.std.proofs.Common.{◌≡◌, ℕ, zero, suc, ◌+◌, ◌<◌, Bool, cond, List, [], ◌∷◌, ◌++◌, map, length, get_or, drop, Some, None, vec_items, Vec, sym, refl, ap, ◌∙◌, arith, below_more}
+use Rattle.std.proofs.Common.{◌≡◌, ℕ, zero, suc, ◌+◌, ◌<◌, ◌≤◌, Bool, cond, ◌||◌, List, [], ◌∷◌, ◌++◌, map, length, get_or, drop, Some, None, Ok, Err, vec_items, Result, Vec, IfOk, sym, refl, ap, ◌∙◌, arith, below_more}
 use Rattle.std.specs.declared.alloc.Global.{Global}
-use Rattle.std.specs.List.{slice_get}
+use Rattle.std.specs.Prelude.{◌==◌}
+use Rattle.std.specs.declared.alloc.AllocError.{AllocError}
+use Rattle.std.specs.List.{slice_get, list_any}
 use Rattle.std.proofs.lemmas.List.{get_or-map, get_or_push, get_or_append_left, length_push, map_push, at_drop_more}
-use Rattle.model.specs.Strips.{Action, names, no_action}
-use Rattle.model.specs.Figures.{adding}
+use Rattle.model.specs.Strips.{Problem, Action, names, no_action}
+use Rattle.model.specs.Figures.{adding, adders}
+use Rattle.strips.specs.declared.action.Action.{Action as ActionValue}
+use Rattle.strips.specs.Actions.{action_of}
 use Rattle.session_theory.specs.Readers.{needing_items}
-use Rattle.links.specs.Indexes.{lists, Indexes}
+use Rattle.links.specs.Indexes.{lists, Indexes, picked, Picks}
 
 pub action_some : (acts : List Action) (k : ℕ) (a : Action) → slice_get acts k ≡ Some a → get_or acts k no_action ≡ a
 action_some acts k a e = grind_read acts k a e where
@@ -15,24 +19,43 @@ action_some acts k a e = grind_read acts k a e where
   grind_read (b ∷ bs) zero a e = cc
   grind_read (b ∷ bs) (suc k) a e = grind_read bs k a e
 
+pub action_within : (acts : List Action) (k : ℕ) → slice_get acts k ≡ None → length acts ≤ k
+action_within [] k e = omega arith
+action_within (b ∷ bs) zero e = absurd (let z : ◌≡◌ {A = ℕ} 0 1 = cc in omega arith)
+action_within (b ∷ bs) (suc k) e = omega (arith, action_within bs k e)
+
 pub action_none : (acts : List Action) (k : ℕ) → slice_get acts k ≡ None → get_or acts k no_action ≡ no_action
 action_none [] k e = refl
 action_none (b ∷ bs) zero e = absurd (let z : ◌≡◌ {A = ℕ} 0 1 = cc in omega arith)
 action_none (b ∷ bs) (suc k) e = action_none bs k e
 
-pub adding_more : (f facts k : ℕ) (acts : List Action) (b : Bool) → k < length acts → names (get_or acts k no_action).add f ≡ b → adding f (facts + k) (drop k acts) ≡ cond b ((facts + k) ∷ adding f (facts + (k + 1)) (drop (k + 1) acts)) (adding f (facts + (k + 1)) (drop (k + 1) acts))
-adding_more f facts k acts b h m =
+pub picked_more : (test : Action → Bool) (facts k : ℕ) (acts : List Action) (b : Bool) → k < length acts → test (get_or acts k no_action) ≡ b → picked test (facts + k) (drop k acts) ≡ cond b ((facts + k) ∷ picked test (facts + (k + 1)) (drop (k + 1) acts)) (picked test (facts + (k + 1)) (drop (k + 1) acts))
+picked_more test facts k acts b h m =
     let j : facts + k + 1 ≡ facts + (k + 1) = omega arith in
-    at_drop_more (adding f (facts + k)) acts k no_action h
-    ∙ ap (λ c. cond c ((facts + k) ∷ adding f (facts + k + 1) (drop (k + 1) acts)) (adding f (facts + k + 1) (drop (k + 1) acts))) m
-    ∙ ap (λ i. cond b ((facts + k) ∷ adding f i (drop (k + 1) acts)) (adding f i (drop (k + 1) acts))) j
+    at_drop_more (picked test (facts + k)) acts k no_action h
+    ∙ ap (λ c. cond c ((facts + k) ∷ picked test (facts + k + 1) (drop (k + 1) acts)) (picked test (facts + k + 1) (drop (k + 1) acts))) m
+    ∙ ap (λ i. cond b ((facts + k) ∷ picked test i (drop (k + 1) acts)) (picked test i (drop (k + 1) acts))) j
 
-pub needing_more : (f facts k : ℕ) (acts : List Action) (b : Bool) → k < length acts → names (get_or acts k no_action).pre f ≡ b → needing_items f (facts + k) (drop k acts) ≡ cond b ((facts + k) ∷ needing_items f (facts + (k + 1)) (drop (k + 1) acts)) (needing_items f (facts + (k + 1)) (drop (k + 1) acts))
-needing_more f facts k acts b h m =
-    let j : facts + k + 1 ≡ facts + (k + 1) = omega arith in
-    at_drop_more (needing_items f (facts + k)) acts k no_action h
-    ∙ ap (λ c. cond c ((facts + k) ∷ needing_items f (facts + k + 1) (drop (k + 1) acts)) (needing_items f (facts + k + 1) (drop (k + 1) acts))) m
-    ∙ ap (λ i. cond b ((facts + k) ∷ needing_items f i (drop (k + 1) acts)) (needing_items f i (drop (k + 1) acts))) j
+pub adding_picked : (f j : ℕ) (acts : List Action) → picked (λ a. names a.add f) j acts ≡ adding f j acts
+adding_picked f j [] = refl
+adding_picked f j (a ∷ acts) = ap (λ l. cond (names a.add f) (j ∷ l) l) (adding_picked f (j + 1) acts)
+
+pub needing_picked : (f j : ℕ) (acts : List Action) → picked (λ a. names a.pre f) j acts ≡ needing_items f j acts
+needing_picked f j [] = refl
+needing_picked f j (a ∷ acts) = ap (λ l. cond (names a.pre f) (j ∷ l) l) (needing_picked f (j + 1) acts)
+
+-- the closure tests whether an action adds the fact, or needs it
+pub adders_picked : {answers : ActionValue → Bool → Type 0} (p : Problem) (f : ℕ) (r : Result (Vec ℕ Global) AllocError) → ((act : ActionValue) (b : Bool) → answers act b → b ≡ names (action_of act).add f) → IfOk r (λ v. Picks answers p (vec_items v)) → IfOk r (λ v. vec_items v ≡ adders p f)
+adders_picked p f (Ok v) told h = h (λ a. names a.add f) told ∙ adding_picked f p.facts p.actions
+adders_picked p f (Err e) told h = tt
+
+pub needers_picked : {answers : ActionValue → Bool → Type 0} (p : Problem) (f : ℕ) (r : Result (Vec ℕ Global) AllocError) → ((act : ActionValue) (b : Bool) → answers act b → b ≡ names (action_of act).pre f) → IfOk r (λ v. Picks answers p (vec_items v)) → IfOk r (λ v. vec_items v ≡ needing_items f p.facts p.actions)
+needers_picked p f (Ok v) told h = h (λ a. names a.pre f) told ∙ needing_picked f p.facts p.actions
+needers_picked p f (Err e) told h = tt
+
+pub names_any : (l : List ℕ) (f : ℕ) → list_any (λ x. x == f) l ≡ names l f
+names_any [] f = refl
+names_any (x ∷ l) f = ap (λ b. x == f || b) (names_any l f)
 
 pub lists_at : (v : Vec (Vec ℕ Global) Global) (r : ℕ) (x : Vec ℕ Global) → r < length (vec_items v) → x ≡ get_or (vec_items v) r x → vec_items x ≡ get_or (lists v) r []
 lists_at v r x h e = sym (get_or-map vec_items (vec_items v) r x [] h ∙ ap vec_items (sym e))

@@ -1,36 +1,25 @@
 // Building the indexes.
-ghost use Rattle.std.specs.Prelude.{◌≡◌, ℕ, ◌<◌, [], length, IfOk};
-ghost use Rattle.model.specs.Strips.{items};
-ghost use Rattle.model.specs.Figures.{adders};
+ghost use Rattle.std.specs.Prelude.{IfOk};
 ghost use Rattle.strips.specs.Tasks.{problem};
-ghost use Rattle.session_theory.specs.Readers.{readers};
-ghost use Rattle.links.specs.Indexes.{lists, Linked, Indexes};
+ghost use Rattle.links.specs.Indexes.{Lists, Linked};
 
 use crate::links::Links;
 use crate::lists::{adders_of, readers_of};
 use std::alloc::{AllocError, Global};
 use strips::task::Task;
 
-// By fact, its adders.
-fn all_adders(heap: Global, task: &Task) -> Result<Vec<Vec<usize>>, AllocError>
-    ensures { IfOk result (λ v. Indexes (problem task.now).facts (adders (problem task.now)) (lists v)) }
+// A list for each number below the count.
+fn lists_below<F: Fn(usize) -> Result<Vec<usize>, AllocError>>(
+    heap: Global,
+    count: usize,
+    list: F,
+) -> Result<Vec<Vec<usize>>, AllocError>
+    requires { F.IsAlwaysCallable list }
+    ensures { IfOk result (Lists (F.post list) count) }
 {
     let mut all = Vec::new(heap);
-    for f in 0..usize::from(task.facts()) {
-        let one = adders_of(heap, task, f)?;
-        all.push(one)?;
-    }
-    Ok(all)
-}
-
-// By item, its readers.
-fn all_readers(heap: Global, task: &Task) -> Result<Vec<Vec<usize>>, AllocError>
-    ensures { IfOk result (λ v. Indexes (items (problem task.now)) (readers (problem task.now)) (lists v)) }
-{
-    let mut all = Vec::new(heap);
-    for q in 0..task.item_count() {
-        let one = readers_of(heap, task, q)?;
-        all.push(one)?;
+    for q in 0..count {
+        all.push(list(q)?)?;
     }
     Ok(all)
 }
@@ -40,10 +29,10 @@ impl Links {
     pub fn of(heap: Global, task: &Task) -> Result<Links, AllocError>
         ensures { IfOk result (Linked (problem task.now)) }
     {
-        // Every task is lawful, which this call's promise says: so an action needs facts alone.
-        let _ = task.facts();
-        let adders = all_adders(heap, task)?;
-        let readers = all_readers(heap, task)?;
+        // That every task is lawful, the promise of this call, says that an action needs facts alone.
+        let facts = usize::from(task.facts());
+        let adders = lists_below(heap, facts, |f| adders_of(heap, task, f))?;
+        let readers = lists_below(heap, task.item_count(), |q| readers_of(heap, task, q))?;
         Ok(Links { adders, readers })
     }
 }

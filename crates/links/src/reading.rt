@@ -9,19 +9,13 @@ impl Links {
     pub fn adders(&self, fact: usize) -> &[usize]
         ensures { result.now ≡ adders_at self.now fact }
     {
-        if fact < self.adders.len() {
-            return self.adders[fact].as_slice();
-        }
-        &[]
+        self.adders.get(fact).map_or(&[], |list| list.as_slice())
     }
 
     // The items that read the item; none past the last item.
     pub fn readers(&self, item: usize) -> &[usize]
         ensures { result.now ≡ readers_at self.now item }
     {
-        if item < self.readers.len() {
-            return self.readers[item].as_slice();
-        }
-        &[]
+        self.readers.get(item).map_or(&[], |list| list.as_slice())
     }
 }

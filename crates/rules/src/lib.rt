@@ -3,5 +3,5 @@
 
 pub mod additive;
 pub mod largest;
-mod members;
+pub mod members;
 pub mod rule;

@@ -1,12 +1,13 @@
 -- The rows of a settling, as the loop writes them. Assumes nothing.
-use Rattle.std.proofs.Common.{◌≡◌, ℕ, ◌+◌, ◌*◌, ◌<◌, ◌≤◌, Bool, true, false, not, ◌&&◌, ◌||◌, eqb, ◌⊎◌, List, [], ◌∷◌, ◌++◌, map, length, get_or, take, drop, set, sym, ap, ◌∙◌, subst, inl, inr, ⊎_elim, arith}
+use Rattle.std.proofs.Common.{◌≡◌, ℕ, ◌+◌, ◌*◌, ◌<◌, ◌≤◌, Bool, true, false, not, ◌&&◌, ◌||◌, eqb, min, ◌⊎◌, List, [], ◌∷◌, ◌++◌, map, length, get_or, take, drop, set, Option, sym, refl, ap, ◌∙◌, subst, inl, inr, ⊎_elim, arith}
 use lib.ListN.{length-map}
 use Rattle.std.proofs.lemmas.List.{take_more_set, drop-set-lt, length-take-le, drop-drop, map_push}
 use Rattle.std.proofs.lemmas.Bool.{cases_Bool, false≢true}
 use Rattle.figure.specs.declared.figure.Figure.{Figure}
 use Rattle.figure.specs.declared.figure.Figure.TheVariants.{None}
+use Rattle.figure.proofs.Same.{rank_low}
 use Rattle.model.specs.Strips.{State, Problem, items, names, struck}
-use Rattle.model.specs.Figures.{Rule, Laws, Table, table, equations, Solves}
+use Rattle.model.specs.Figures.{Rule, Laws, Table, table, least, equations, Solves}
 use Rattle.model.specs.Docket.{Row, row, Docket}
 use Rattle.model.specs.Settling.{Step, Settling, reads}
 use Rattle.model.specs.Settling.Settling.{more}
@@ -14,8 +15,12 @@ use Rattle.model.proofs.Equations.{system, local}
 use Rattle.model.proofs.Ranked.{table_other}
 use Rattle.model.proofs.Runs.{settles, tracked}
 use Rattle.model.proofs.Tracks.{spent_solves}
+use Rattle.std.specs.declared.option.Option.TheVariants as option
+use Rattle.strips.specs.declared.state.State.{State as StateValue}
 use Rattle.settling.specs.declared.row.DocketRow.{DocketRow}
-use Rattle.settling.specs.Holding.{row_of}
+use Rattle.settling.specs.declared.base.Base.{Base}
+use Rattle.settling.specs.declared.held.HeldFigures.{HeldFigures}
+use Rattle.settling.specs.Holding.{row_of, Fitting, Keeping, Resting, Turned}
 
 -- one more row
 pub rows_more : (F : Table → Table) (first figures after : List Figure) (d : List DocketRow) (n : ℕ) (w : DocketRow) → Settling F first figures (map row_of (take n d)) → n < length d → Step F figures w.item w.after → w.before ≡ get_or figures w.item None → after ≡ set figures w.item w.after → Settling F first after (map row_of (take (n + 1) (set d n w)))
@@ -54,3 +59,12 @@ struck_first x l r e = go (eqb x r) (names l r) e where
   go : (a b : Bool) → (not a && (a || b)) ≡ true → b ≡ true
   go true b e = absurd (false≢true e)
   go false b e = e
+
+-- one more item
+pub least_push : (figures : List Figure) (qs : List ℕ) (q v w : ℕ) → least (table figures) qs ≡ v → w ≡ min v (table figures q) → least (table figures) (qs ++ (q ∷ [])) ≡ w
+least_push figures [] q v w e m = omega (arith, e, m, rank_low (get_or figures q None))
+least_push figures (p ∷ qs) q v w e m = omega (arith, e, m, least_push figures qs q (least (table figures) qs) (min (least (table figures) qs) (table figures q)) refl refl)
+
+-- a turn that answers no row
+pub resting : {R Q : Type 0} (result : R → Rule) (pairs : Q → List (Option Figure)) (base : Base R) (state : StateValue) (h k : HeldFigures Q) (r : Option DocketRow) → r ≡ option.None → (Fitting base h → Keeping result pairs base state h → Resting result pairs base state h k) → Turned result pairs base state h k r
+resting result pairs base state h k r e rest = subst (λ s. Turned result pairs base state h k s) (sym e) rest

@@ -3,7 +3,6 @@ ghost use Rattle.std.specs.Prelude.{◌≡◌, ◌≤◌, true, length, replicat
 ghost use Rattle.figure.specs.declared.figure.Figure.TheVariants.{None};
 ghost use Rattle.model.specs.Strips.{items};
 ghost use Rattle.strips.specs.Tasks.{problem};
-ghost use Rattle.links.specs.Indexes.{Linked};
 ghost use Rattle.queue.specs.Queues.{vacant};
 ghost use Rattle.settling.specs.Holding.{Refreshes, Keeping};
 
@@ -12,26 +11,8 @@ use crate::held::HeldFigures;
 use figure::figure::Figure;
 use queue::queue::Queue;
 use rules::rule::CostRule;
-use std::alloc::{AllocError, Global};
+use std::alloc::Global;
 use strips::state::State;
-
-// So many times none.
-fn nones(heap: Global, count: usize) -> Result<Vec<Figure>, AllocError>
-    ensures { IfOk result (λ v. v.items ≡ replicate count None) }
-{
-    let mut figures = Vec::new(heap);
-    figures.resize(count, Figure::None)?;
-    Ok(figures)
-}
-
-// Both lists of figures, or neither.
-fn two_lists(heap: Global, count: usize) -> Result<(Vec<Figure>, Vec<Figure>), AllocError>
-    ensures { IfOk result (λ v. (v.0.items ≡ replicate count None) × (v.1.items ≡ replicate count None)) }
-{
-    let figures = nones(heap, count)?;
-    let sides = nones(heap, count)?;
-    Ok((figures, sides))
-}
 
 impl<Q: Queue<Key = Figure>> HeldFigures<Q> {
     // Makes every right-hand side right.
@@ -40,6 +21,7 @@ impl<Q: Queue<Key = Figure>> HeldFigures<Q> {
         ensures held { self.new.figures ≡ self.old.figures }
         ensures after { Refreshes R.CostRule.rule Q.Queue.pairs base.now state.now self.old self.new (λ _. true) }
     {
+        // By number, since each refresh takes an item's number and changes all but the figures.
         for item in 0..self.figures.len() {
             self.refresh(base, state, item);
         }
@@ -54,19 +36,21 @@ impl<Q: Queue<Key = Figure>> HeldFigures<Q> {
     ) -> Result<HeldFigures<Q>, Q>
         ensures held { MatchResult result (λ h. h.figures.items ≡ replicate (items (problem base.now.task)) None) (λ q. q ≡ queue) }
         ensures keeps { Q.Queue.sound queue → IfOk result (λ h. Q.Queue.sound h.queue) }
-        ensures after { Linked (problem base.now.task) base.now.links → vacant (Q.Queue.pairs queue) ≡ true → items (problem base.now.task) ≤ length (Q.Queue.pairs queue) → IfOk result (Keeping R.CostRule.rule Q.Queue.pairs base.now state.now) }
+        ensures after { vacant (Q.Queue.pairs queue) ≡ true → items (problem base.now.task) ≤ length (Q.Queue.pairs queue) → IfOk result (Keeping R.CostRule.rule Q.Queue.pairs base.now state.now) }
     {
-        match two_lists(heap, base.task.item_count()) {
-            Ok(lists) => {
-                let mut held = HeldFigures {
-                    figures: lists.0,
-                    sides: lists.1,
-                    queue,
-                };
-                held.refresh_every(base, state);
-                Ok(held)
-            }
-            Err(_) => Err(queue),
-        }
+        let count = base.task.item_count();
+        let Ok(figures) = vec![in heap; Figure::None; count] else {
+            return Err(queue);
+        };
+        let Ok(sides) = vec![in heap; Figure::None; count] else {
+            return Err(queue);
+        };
+        let mut held = HeldFigures {
+            figures,
+            sides,
+            queue,
+        };
+        held.refresh_every(base, state);
+        Ok(held)
     }
 }

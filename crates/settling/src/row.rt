@@ -2,7 +2,7 @@
 use figure::figure::Figure;
 
 // A change of one item's figure.
-#[derive(Clone, Copy)]
+#[derive(Debug, Clone, Copy, Default, PartialEq, Eq)]
 pub struct DocketRow {
     pub item: usize,
     pub before: Figure,

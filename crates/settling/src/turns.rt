@@ -1,14 +1,13 @@
 // Making right-hand sides right, and settling turn by turn.
 ghost use Rattle.std.specs.Prelude.{◌≡◌, ℕ, ◌<◌, ◌≤◌, length, drop, vec_len, slice_set};
 ghost use Rattle.model.specs.Strips.{names, struck};
-ghost use Rattle.strips.specs.Tasks.{problem};
 ghost use Rattle.session_theory.specs.Kept.{due};
-ghost use Rattle.settling.specs.Holding.{Fitting, Refreshes, Refreshed, Turned, Settled};
+ghost use Rattle.settling.specs.Holding.{Refreshes, Refreshed, Turned, Settled};
 
 use crate::base::Base;
 use crate::held::HeldFigures;
 use crate::row::DocketRow;
-use crate::sides::{moved_from, side_of, smaller_of};
+use crate::sides::{moved_from, side_of};
 use figure::figure::Figure;
 use queue::queue::Queue;
 use rules::rule::CostRule;
@@ -22,7 +21,7 @@ fn adjust<Q: Queue<Key = Figure>>(queue: &mut Q, item: usize, held: Figure, side
     if held == side {
         let _ = queue.drop_item(item);
     } else {
-        let _ = queue.put(item, smaller_of(held, side));
+        let _ = queue.put(item, held.min(side));
     }
 }
 
@@ -57,26 +56,21 @@ impl<Q: Queue<Key = Figure>> HeldFigures<Q> {
         ensures long { vec_len self.new.figures ≡ vec_len self.old.figures }
         ensures after { Q.Queue.sound self.old.queue → Turned R.CostRule.rule Q.Queue.pairs base.now state.now self.old self.new result }
     {
-        match self.queue.take() {
-            Some(found) => {
-                let item = found.0;
-                if item >= self.figures.len() {
-                    return None;
-                }
-                let before = self.figures[item];
-                let side = self.sides[item];
-                let after = moved_from(before, side);
-                self.figures[item] = after;
-                adjust(&mut self.queue, item, after, side);
-                self.refresh_all(base, state, base.links.readers(item));
-                Some(DocketRow {
-                    item,
-                    before,
-                    after,
-                })
-            }
-            None => None,
+        let (item, _) = self.queue.take()?;
+        if item >= self.figures.len() {
+            return None;
         }
+        let before = self.figures[item];
+        let side = self.sides[item];
+        let after = moved_from(before, side);
+        self.figures[item] = after;
+        adjust(&mut self.queue, item, after, side);
+        self.refresh_all(base, state, base.links.readers(item));
+        Some(DocketRow {
+            item,
+            before,
+            after,
+        })
     }
 
     // Takes turns until every item is consistent, with a row for each turn, or until the docket is full.
@@ -92,16 +86,12 @@ impl<Q: Queue<Key = Figure>> HeldFigures<Q> {
         ensures later { drop result docket.new ≡ drop result docket.old }
         ensures after { Q.Queue.sound self.old.queue → Settled R.CostRule.rule Q.Queue.pairs base.now state.now self.old self.new docket.old docket.new result }
     {
-        let mut n = 0;
-        while n < docket.len() {
-            match self.turn(base, state) {
-                Some(row) => {
-                    docket[n] = row;
-                    n += 1;
-                }
-                None => return n,
-            }
+        for (n, place) in docket.iter_mut().enumerate() {
+            let Some(row) = self.turn(base, state) else {
+                return n;
+            };
+            *place = row;
         }
-        n
+        docket.len()
     }
 }

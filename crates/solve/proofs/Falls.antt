@@ -1,9 +1,8 @@
 -- What sweeps keep, that they end, and where. Assumes nothing.
-use Rattle.std.proofs.Common.{◌≡◌, ℕ, ◌+◌, ◌<◌, ◌≤◌, Bool, true, false, ◌≢◌, eqb, List, length, get_or, set, replicate, Decides, sym, refl, ap, ◌∙◌, ⊎_elim, arith}
+use Rattle.std.proofs.Common.{◌≡◌, ℕ, ◌+◌, ◌<◌, ◌≤◌, Bool, true, false, ◌≢◌, List, length, get_or, set, replicate, Decides, sym, refl, ap, ◌∙◌, ⊎_elim, arith}
 use lib.ListN.{length-replicate}
 use Rattle.std.proofs.lemmas.List.{get_or-replicate, get_or_default}
 use Rattle.std.proofs.lemmas.Bool.{cases_lt, cases_eq, true≢false, both_ways}
-use Rattle.std.proofs.lemmas.Bool.Decides.{Decides-eqb, Decides-like}
 use Rattle.figure.specs.declared.figure.Figure.{Figure}
 use Rattle.figure.specs.declared.figure.Figure.TheVariants.{None}
 use Rattle.figure.specs.Ranks.{top, rank}
@@ -23,10 +22,6 @@ swept_none F figures h = record {
   fell = λ e. absurd (true≢false (sym e));
   settled = λ _ q l. absurd (omega arith);
 }
-
--- what `==` on figures tells
-pub told_same : (f g : Figure) → Decides (eqb (rank f) (rank g)) (f ≡ g)
-told_same f g = Decides-like _ (same_rank f g) (ap rank) (Decides-eqb (rank f) (rank g))
 
 -- the item is consistent
 pub swept_same : (F : Table → Table) (i : ℕ) (before after : List Figure) (changed : Bool) → Swept F i before after changed → table after i ≡ F (table after) i → Swept F (i + 1) before after changed

@@ -1,40 +1,16 @@
 // The right-hand side of an item's equation.
-ghost use Rattle.std.specs.Prelude.{◌≡◌, ◌+◌, min, map, length, if◌then◌else◌, nat_lt};
-ghost use Rattle.figure.specs.Ranks.{top, rank, cut};
+ghost use Rattle.std.specs.Prelude.{◌≡◌, ◌+◌, map, length, if◌then◌else◌, nat_lt};
+ghost use Rattle.figure.specs.Ranks.{top, rank};
 ghost use Rattle.model.specs.Strips.{names, action};
 ghost use Rattle.model.specs.Figures.{table, least, adders, fact_from, action_from, equations};
 ghost use Rattle.strips.specs.Standing.{standing};
 ghost use Rattle.strips.specs.Tasks.{problem};
 
 use figure::figure::Figure;
+use rules::members::figure_at;
 use rules::rule::CostRule;
 use strips::state::State;
 use strips::task::Task;
-
-// The figure of an item: none past the last.
-fn figure_at(figures: &[Figure], item: usize) -> Figure
-    ensures { rank result ≡ table figures.now item }
-{
-    match figures.get(item) {
-        Some(figure) => *figure,
-        None => Figure::None,
-    }
-}
-
-fn one_more(figure: Figure) -> Figure
-    ensures { rank result ≡ cut (rank figure + 1) }
-{
-    match figure.number() {
-        Some(number) => Figure::of(number + 1),
-        None => Figure::None,
-    }
-}
-
-fn smaller(left: Figure, right: Figure) -> Figure
-    ensures { rank result ≡ min (rank left) (rank right) }
-{
-    if left.at_most(right) { left } else { right }
-}
 
 // The figure of the action of this number if it adds the fact, or else none.
 fn adder_figure(task: &Task, figures: &[Figure], fact: u8, number: usize) -> Figure
@@ -51,11 +27,9 @@ fn adder_figure(task: &Task, figures: &[Figure], fact: u8, number: usize) -> Fig
 fn least_adder(task: &Task, figures: &[Figure], fact: u8) -> Figure
     ensures { rank result ≡ least (table figures.now) (adders (problem task.now) fact) }
 {
-    let mut best = Figure::None;
-    for number in 0..task.action_count() {
-        best = smaller(best, adder_figure(task, figures, fact, number));
-    }
-    best
+    (0..task.action_count()).fold(Figure::None, |best, number| {
+        best.min(adder_figure(task, figures, fact, number))
+    })
 }
 
 fn fact_side(task: &Task, state: &State, figures: &[Figure], fact: u8) -> Figure
@@ -64,14 +38,14 @@ fn fact_side(task: &Task, state: &State, figures: &[Figure], fact: u8) -> Figure
     if state.stands(fact) {
         return Figure::of(0);
     }
-    one_more(least_adder(task, figures, fact))
+    least_adder(task, figures, fact) + Figure::of(1)
 }
 
 fn action_side<R: CostRule>(task: &Task, rule: &R, figures: &[Figure], number: usize) -> Figure
     ensures { rank result ≡ (if nat_lt number (length (problem task.now).actions) then action_from (R.CostRule.rule rule.now (map (table figures.now) (action (problem task.now) number).pre)) else top) }
 {
     match task.action(number) {
-        Some(action) => one_more(rule.over(figures, action.preconditions())),
+        Some(action) => rule.over(figures, action.preconditions()) + Figure::of(1),
         None => Figure::None,
     }
 }

@@ -18,6 +18,7 @@ fn sweep<R: CostRule>(task: &Task, state: &State, rule: &R, figures: &mut [Figur
     ensures { Swept (equations (R.CostRule.rule rule.now) (problem task.now) (standing state.now)) (length figures.old) figures.old figures.new result }
 {
     let mut changed = false;
+    // By number, since each right-hand side reads all the figures, those that the sweep has changed among them.
     for item in 0..figures.len() {
         let side = side_of(task, state, rule, figures, item);
         if side != figures[item] {

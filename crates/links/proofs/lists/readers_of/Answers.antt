@@ -1,10 +1,10 @@
-use Rattle.std.proofs.Common.{◌≡◌, ℕ, ◌-◌, List, IfOk, vec_items, sym, ap, ◌∙◌, subst, arith}
+use Rattle.std.proofs.Common.{◌≡◌, ℕ, ◌-◌, List, IfOk, vec_items, sym, ap, ◌∙◌, subst, arith, rules}
 use Rattle.std.proofs.lemmas.Bool.{cond-true, cond-false, lt-ltb, le-ltb}
 use Rattle.model.specs.Strips.{action}
 use Rattle.strips.specs.Tasks.{problem}
 use Rattle.strips.specs.Actions.{action_of}
 use Rattle.session_theory.specs.Readers.{needing_items, readers}
-use Rattle.links.proofs.Builds.{action_some, action_none}
+use Rattle.links.proofs.Builds.{action_some, action_none, needers_picked}
 use Rattle.links.proofs.lists.readers_of.Goals as goal
 
 pub returns-then-item-facts : goal.returns-then-item-facts
@@ -12,7 +12,8 @@ returns-then-item-facts c =
     let p = problem c.args.task.now in
     let q = c.args.item in
     let e : readers p q ≡ needing_items q p.facts p.actions = cond-true _ _ _ (lt-ltb q p.facts (omega (arith, c.if-item-facts.true, c.from-facts.ensures, c.facts.ensures.is))) in
-    subst (λ (l : List ℕ). IfOk c.needers_of.result (λ v. vec_items v ≡ l)) (sym e) c.needers_of.ensures
+    subst (λ (l : List ℕ). IfOk c.items_where.result (λ v. vec_items v ≡ l)) (sym e)
+    (needers_picked p q c.items_where.result (λ act b k. search rules) c.items_where.ensures)
 
 pub returns-in-Some : goal.returns-in-Some
 returns-in-Some c =
@@ -22,7 +23,7 @@ returns-in-Some c =
     let e : readers p q ≡ (action p (q - p.facts)).add = cond-false _ _ _ (le-ltb q p.facts (omega (arith, c.if-item-facts.false, c.from-facts.ensures, c.facts.ensures.is))) in
     let a = action_some p.actions (q - c.from-facts.result) (action_of c.in-Some.act.now) c.in-Some.ensures in
     let same : c.adds.result.now ≡ readers p q = c.adds.ensures ∙ ap (λ z. z.add) (sym a) ∙ ap (λ n. (action p n).add) less ∙ sym e in
-    subst (λ (l : List ℕ). IfOk c.as_items.result (λ v. vec_items v ≡ l)) same c.as_items.ensures
+    subst (λ (l : List ℕ). IfOk c.collect.result (λ v. vec_items v ≡ l)) same (search rules)
 
 pub returns-in-None : goal.returns-in-None
 returns-in-None c =

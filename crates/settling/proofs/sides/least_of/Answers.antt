@@ -1,21 +1,17 @@
-use Rattle.std.proofs.Common.{ap, arith}
-use Rattle.std.proofs.lemmas.List.{at_drop_more, at_drop_all}
+use Rattle.std.proofs.Common.{◌≡◌, ℕ, min, List, sym, refl, rules}
+use Rattle.std.proofs.lemmas.Iterator.{YieldsList-from_slice}
+use Rattle.std.proofs.lemmas.Fn.{fold_over, fronts}
+use Rattle.figure.specs.declared.figure.Figure.{Figure}
+use Rattle.figure.specs.declared.figure.Figure.TheVariants.{None}
 use Rattle.figure.specs.Ranks.{rank}
-use Rattle.figure.proofs.Same.{rank_low}
 use Rattle.model.specs.Figures.{table, least}
-use Rattle.session_theory.proofs.Queues.{rank_smaller}
-use Rattle.session_theory.proofs.Sides.{least_low}
+use Rattle.settling.proofs.Loops.{least_push}
 use Rattle.settling.proofs.sides.least_of.Goals as goal
-
-pub loop-item-init : goal.loop-item-init
-loop-item-init c = omega (arith, least_low (table c.args.figures.now) c.args.items.now)
-
-pub loop-item-preserved : goal.loop-item-preserved
-loop-item-preserved c =
-    let d = at_drop_more (least (table c.args.figures.now)) c.args.items.now c.loop-item.item-index 0 c.loop-item-test.true in
-    omega (arith, d, c.loop-item.invariant, ap rank c.smaller_of-best.ensures, rank_smaller c.loop-item.best c.figure_at.result, ap rank c.figure_at.ensures)
 
 pub returns : goal.returns
 returns c =
-    let d = at_drop_all (least (table c.args.figures.now)) c.args.items.now c.loop-item.item-index c.loop-item-test.false in
-    omega (arith, d, c.loop-item.invariant, rank_low c.loop-item.best)
+    let l = c.args.figures.now in
+    let J : List ℕ → Figure → Type 0 = λ qs best. least (table l) qs ≡ rank best in
+    sym (fold_over fronts (λ y. y.now) _ J _
+    (λ qs a y b f so_far called. (let e : (rank b ≡ min (rank a) (table l y.now)) = search rules in least_push l qs y.now (rank a) (rank b) so_far e, search rules))
+    c.iter.result c.args.items.now None c.fold.result (YieldsList-from_slice {s = c.iter.result} c.args.items.now cc).runs refl c.fold.ensures.ran)

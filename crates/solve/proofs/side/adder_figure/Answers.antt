@@ -16,7 +16,7 @@ returns-then-contains c =
     let p = problem c.args.task.now in let k = c.args.number in let f = c.args.fact in
     let x = table c.args.figures.now in let a = action_of c.in-Some.action.now in
     let on = sym c.if-contains.true ∙ contained c.adds.result.now f c.contains.result c.contains.ensures.cases ∙ ap (λ l. names l f) c.adds.ensures in
-    c.figure_at.ensures ∙ ap (λ n. x (n + k)) (c.from.ensures ∙ c.facts.ensures.is) ∙ adder_some p k a f x true c.in-Some.ensures on
+    c.figure_at.ensures.ranked ∙ ap (λ n. x (n + k)) (c.from.ensures ∙ c.facts.ensures.is) ∙ adder_some p k a f x true c.in-Some.ensures on
 
 pub returns-else-contains : goal.returns-else-contains
 returns-else-contains c =

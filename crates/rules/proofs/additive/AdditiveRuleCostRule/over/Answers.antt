@@ -1,20 +1,13 @@
-use Rattle.std.proofs.Common.{map, arith}
-use Rattle.std.proofs.lemmas.List.{at_drop_more, at_drop_all}
-use Rattle.figure.proofs.Same.{rank_low}
-use Rattle.model.specs.Figures.{table, additive_rule}
-use Rattle.model.proofs.Equations.{additive_laws}
+use Rattle.std.proofs.Common.{rules}
+use Rattle.std.proofs.lemmas.Iterator.{YieldsList-from_slice}
+use Rattle.std.proofs.lemmas.Fn.{fold_over, fronts}
+use Rattle.model.specs.Figures.{table}
+use Rattle.rules.proofs.Folds.{Summed, summed_none, summed_more, summed_all}
 use Rattle.rules.proofs.additive.AdditiveRuleCostRule.over.Goals as goal
-
-pub loop-item-init : goal.loop-item-init
-loop-item-init c =
-    omega (arith, c.of-sum.ensures, additive_laws.figure (map (table c.args.figures.now) c.args.items.now))
-
-pub loop-item-preserved : goal.loop-item-preserved
-loop-item-preserved c =
-    let d = at_drop_more (λ l. additive_rule (map (table c.args.figures.now) l)) c.args.items.now c.loop-item.item-index 0 c.loop-item-test.true in
-    omega (arith, d, c.loop-item.invariant, c.plus-sum.ensures, c.figure_at.ensures)
 
 pub returns : goal.returns
 returns c =
-    let d = at_drop_all (λ l. additive_rule (map (table c.args.figures.now) l)) c.args.items.now c.loop-item.item-index c.loop-item-test.false in
-    omega (arith, d, c.loop-item.invariant, rank_low c.loop-item.sum)
+    let x = table c.args.figures.now in
+    summed_all x c.args.items.now c.fold.result
+    (fold_over fronts (λ y. y.now) _ (Summed x) _ (λ done a y b f so_far called. (summed_more x done y.now a b so_far (search rules), search rules))
+    c.iter.result c.args.items.now c.of.result c.fold.result (YieldsList-from_slice {s = c.iter.result} c.args.items.now cc).runs (summed_none x c.of.result (search rules)) c.fold.ensures.ran)

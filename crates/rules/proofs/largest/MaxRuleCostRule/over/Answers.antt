@@ -1,17 +1,13 @@
-use Rattle.std.proofs.Common.{◌+◌, map, drop, arith}
-use Rattle.std.proofs.lemmas.List.{at_drop_more, at_drop_all}
-use Rattle.figure.proofs.Same.{rank_low}
-use Rattle.model.specs.Figures.{table, max_rule}
-use Rattle.model.proofs.Equations.{max_laws}
+use Rattle.std.proofs.Common.{rules}
+use Rattle.std.proofs.lemmas.Iterator.{YieldsList-from_slice}
+use Rattle.std.proofs.lemmas.Fn.{fold_over, fronts}
+use Rattle.model.specs.Figures.{table}
+use Rattle.rules.proofs.Folds.{Largest, largest_none, largest_more, largest_all}
 use Rattle.rules.proofs.largest.MaxRuleCostRule.over.Goals as goal
-
-pub loop-item-preserved : goal.loop-item-preserved
-loop-item-preserved c =
-    let d = at_drop_more (λ l. max_rule (map (table c.args.figures.now) l)) c.args.items.now c.loop-item.item-index 0 c.loop-item-test.true in
-    let u = max_laws.figure (map (table c.args.figures.now) (drop (c.loop-item.item-index + 1) c.args.items.now)) in
-    omega (arith, d, u, c.loop-item.invariant, c.larger-most.ensures, c.figure_at.ensures, rank_low c.figure_at.result)
 
 pub returns : goal.returns
 returns c =
-    let d = at_drop_all (λ l. max_rule (map (table c.args.figures.now) l)) c.args.items.now c.loop-item.item-index c.loop-item-test.false in
-    omega (arith, d, c.loop-item.invariant)
+    let x = table c.args.figures.now in
+    largest_all x c.args.items.now c.fold.result
+    (fold_over fronts (λ y. y.now) _ (Largest x) _ (λ done a y b f so_far called. (largest_more x done y.now a b so_far (search rules), search rules))
+    c.iter.result c.args.items.now c.of.result c.fold.result (YieldsList-from_slice {s = c.iter.result} c.args.items.now cc).runs (largest_none x c.of.result (search rules)) c.fold.ensures.ran)

@@ -9,28 +9,15 @@ use Rattle.session_theory.proofs.Queues.{stale_start}
 use Rattle.settling.specs.Holding.{equations_of}
 use Rattle.settling.proofs.held.HeldFigures.begin.Goals as goal
 
-pub invariant_of-held : goal.invariant_of-held
-invariant_of-held g c =
-    let l = c.in-Ok.lists in
-    let e = c.in-Ok.ensures in
-    let n = length-replicate c.item_count.result None in
-    record { level = omega (arith, ap length e.0, ap length e.1, n, l.0.ok.0, l.1.ok.0) }
-
-pub returns-in-Ok : goal.returns-in-Ok
-returns-in-Ok g c =
-    let l = c.in-Ok.lists in
-    let e = c.in-Ok.ensures in
+pub returns-clause-after : goal.returns-clause-after
+returns-clause-after g c = λ none room.
     let base = c.args.base.now in
     let n = items (problem base.task) in
     let F = equations_of g.R.CostRule.rule base c.args.state.now in
     let pairs = g.Q.Queue.pairs c.args.queue in
-    let a : vec_items l.0 ≡ replicate n None = e.0 ∙ ap (λ m. replicate m None) c.item_count.ensures in
-    let b : vec_items l.1 ≡ replicate n None = e.1 ∙ ap (λ m. replicate m None) c.item_count.ensures in
-    record {
-      held = ap vec_items c.refresh_every.ensures.held ∙ a;
-      keeps = c.refresh_every.ensures.keeps;
-      after = λ linked none room.
-          c.refresh_every.ensures.after (record { linked = linked; long = omega (arith, ap length a, length-replicate n None, l.0.ok.0) })
-          (subst (λ (v : List Figure). Stale F v (vec_items l.1) pairs (λ _. true)) (sym a)
-          (subst (λ (v : List Figure). Stale F (replicate n None) v pairs (λ _. true)) (sym b) (stale_start F n pairs none room)));
-    }
+    let count = ap (λ m. replicate m None) c.item_count-count.ensures in
+    let a : vec_items c.in-Ok.figures ≡ replicate n None = c.in-Ok.ensures.items_if_clones_equal (λ y h. h) ∙ count in
+    let b : vec_items c.in-Ok-vec.sides ≡ replicate n None = c.in-Ok-vec.ensures.items_if_clones_equal (λ y h. h) ∙ count in
+    c.refresh_every.ensures.after (record { long = omega (arith, ap length a, length-replicate n None, c.in-Ok.figures.ok.0) })
+    (subst (λ (v : List Figure). Stale F v (vec_items c.in-Ok-vec.sides) pairs (λ _. true)) (sym a)
+    (subst (λ (v : List Figure). Stale F (replicate n None) v pairs (λ _. true)) (sym b) (stale_start F n pairs none room)))
