@@ -1,4 +1,8 @@
-// Which rule, queue and estimator.
+// Which rule, queue and estimator, and the numbers by which a caller can choose them.
+ghost use Rattle.std.specs.Prelude.{◌≡◌};
+ghost use Rattle.std.specs.Option.{ok_or};
+ghost use Rattle.choices.specs.Numbers.{rule_numbered, queue_numbered, estimator_numbered};
+ghost use Rattle.choices.specs.declared.choice.UnknownChoice.{UnknownChoice as Unknown};
 
 #[derive(Clone, Copy)]
 pub enum RuleChoice {
@@ -18,4 +22,51 @@ pub enum EstimatorChoice {
     Session,
     // Keeping over the larger of a session and blind.
     Keeping,
+}
+
+// A number under which nothing can be chosen.
+#[derive(Clone, Copy, Debug, PartialEq, Eq)]
+pub struct UnknownChoice(pub u8);
+
+impl TryFrom<u8> for RuleChoice {
+    type Error = UnknownChoice;
+
+    ghost try_from_gives = { λ n r. r ≡ ok_or (rule_numbered n) (UnknownChoice n) };
+
+    fn try_from(number: u8) -> Result<RuleChoice, UnknownChoice> {
+        match number {
+            0 => Ok(RuleChoice::Additive),
+            1 => Ok(RuleChoice::Max),
+            _ => Err(UnknownChoice(number)),
+        }
+    }
+}
+
+impl TryFrom<u8> for QueueChoice {
+    type Error = UnknownChoice;
+
+    ghost try_from_gives = { λ n r. r ≡ ok_or (queue_numbered n) (UnknownChoice n) };
+
+    fn try_from(number: u8) -> Result<QueueChoice, UnknownChoice> {
+        match number {
+            0 => Ok(QueueChoice::Heap),
+            1 => Ok(QueueChoice::Table),
+            _ => Err(UnknownChoice(number)),
+        }
+    }
+}
+
+impl TryFrom<u8> for EstimatorChoice {
+    type Error = UnknownChoice;
+
+    ghost try_from_gives = { λ n r. r ≡ ok_or (estimator_numbered n) (UnknownChoice n) };
+
+    fn try_from(number: u8) -> Result<EstimatorChoice, UnknownChoice> {
+        match number {
+            0 => Ok(EstimatorChoice::Blind),
+            1 => Ok(EstimatorChoice::Session),
+            2 => Ok(EstimatorChoice::Keeping),
+            _ => Err(UnknownChoice(number)),
+        }
+    }
 }
