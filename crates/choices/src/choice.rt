@@ -1,8 +1,7 @@
 // Which rule, queue and estimator, and the numbers by which a caller can choose them.
 ghost use Rattle.std.specs.Prelude.{◌≡◌};
-ghost use Rattle.std.specs.Option.{ok_or};
+ghost use Rattle.std.specs.Result.{result_ok};
 ghost use Rattle.choices.specs.Numbers.{rule_numbered, queue_numbered, estimator_numbered};
-ghost use Rattle.choices.specs.declared.choice.UnknownChoice.{UnknownChoice as Unknown};
 
 #[derive(Clone, Copy)]
 pub enum RuleChoice {
@@ -26,18 +25,18 @@ pub enum EstimatorChoice {
 
 // A number under which nothing can be chosen.
 #[derive(Clone, Copy, Debug, PartialEq, Eq)]
-pub struct UnknownChoice(pub u8);
+pub struct UnknownChoice;
 
 impl TryFrom<u8> for RuleChoice {
     type Error = UnknownChoice;
 
-    ghost try_from_gives = { λ n r. r ≡ ok_or (rule_numbered n) (UnknownChoice n) };
+    ghost try_from_gives = { λ n r. result_ok r ≡ rule_numbered n };
 
     fn try_from(number: u8) -> Result<RuleChoice, UnknownChoice> {
         match number {
             0 => Ok(RuleChoice::Additive),
             1 => Ok(RuleChoice::Max),
-            _ => Err(UnknownChoice(number)),
+            _ => Err(UnknownChoice),
         }
     }
 }
@@ -45,13 +44,13 @@ impl TryFrom<u8> for RuleChoice {
 impl TryFrom<u8> for QueueChoice {
     type Error = UnknownChoice;
 
-    ghost try_from_gives = { λ n r. r ≡ ok_or (queue_numbered n) (UnknownChoice n) };
+    ghost try_from_gives = { λ n r. result_ok r ≡ queue_numbered n };
 
     fn try_from(number: u8) -> Result<QueueChoice, UnknownChoice> {
         match number {
             0 => Ok(QueueChoice::Heap),
             1 => Ok(QueueChoice::Table),
-            _ => Err(UnknownChoice(number)),
+            _ => Err(UnknownChoice),
         }
     }
 }
@@ -59,14 +58,14 @@ impl TryFrom<u8> for QueueChoice {
 impl TryFrom<u8> for EstimatorChoice {
     type Error = UnknownChoice;
 
-    ghost try_from_gives = { λ n r. r ≡ ok_or (estimator_numbered n) (UnknownChoice n) };
+    ghost try_from_gives = { λ n r. result_ok r ≡ estimator_numbered n };
 
     fn try_from(number: u8) -> Result<EstimatorChoice, UnknownChoice> {
         match number {
             0 => Ok(EstimatorChoice::Blind),
             1 => Ok(EstimatorChoice::Session),
             2 => Ok(EstimatorChoice::Keeping),
-            _ => Err(UnknownChoice(number)),
+            _ => Err(UnknownChoice),
         }
     }
 }

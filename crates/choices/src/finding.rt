@@ -37,13 +37,8 @@ fn session_on<F: Queue<Key = Figure> + Drop>(
 {
     let own = task.twin(heap)?;
     let queue = F::new(heap, own.item_count())?;
-    match Session::open(heap, own, MaxRule, queue) {
-        Ok(session) => match SessionEstimator::new(heap, session) {
-            Ok(estimator) => Ok(estimator),
-            Err(_) => Err(AllocError),
-        },
-        Err(_) => Err(AllocError),
-    }
+    let session = Session::open(heap, own, MaxRule, queue).map_err(|_| AllocError)?;
+    SessionEstimator::new(heap, session).map_err(|_| AllocError)
 }
 
 impl Query<'_> {
