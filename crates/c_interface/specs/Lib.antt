@@ -1,4 +1,3 @@
-pub mod Choices
 pub mod Failures
 pub mod Delivering
 pub mod Reading

@@ -17,7 +17,7 @@ use Rattle.wire.specs.Searches.{search_bytes}
 use Rattle.c_interface.specs.declared.structs.Answered.{Answered}
 use Rattle.c_interface.specs.declared.why.Failure.{Failure}
 use Rattle.c_interface.specs.declared.why.Failure.TheVariants.{Text, Calls, Choice, Memory}
-use Rattle.c_interface.specs.Choices.{estimator_numbered, queue_numbered}
+use Rattle.choices.specs.Numbers.{estimator_numbered, queue_numbered}
 use Rattle.c_interface.specs.Delivering.{Delivered}
 
 -- both numbers choose something

@@ -17,7 +17,7 @@ use Rattle.c_interface.specs.declared.structs.Answered.{Answered}
 use Rattle.c_interface.specs.declared.why.Failure.{Failure}
 use Rattle.c_interface.specs.declared.why.Failure.TheVariants.{Text, Calls, Choice, Memory}
 use Rattle.choices.specs.Rules.{rule_of}
-use Rattle.c_interface.specs.Choices.{rule_numbered, queue_numbered}
+use Rattle.choices.specs.Numbers.{rule_numbered, queue_numbered}
 use Rattle.c_interface.specs.Delivering.{Delivered}
 
 -- both numbers choose something

@@ -1,9 +1,10 @@
 // Failures of the layers below.
 ghost use Rattle.std.specs.Prelude.{◌≡◌};
 ghost use Rattle.c_interface.specs.Failures.{of_reading, of_calls};
-ghost use Rattle.c_interface.specs.declared.why.Failure.TheVariants.{Memory};
+ghost use Rattle.c_interface.specs.declared.why.Failure.TheVariants.{Choice, Memory};
 
 use crate::why::Failure;
+use choices::choice::UnknownChoice;
 use std::alloc::AllocError;
 use textfault::fault::ReadFault;
 use wire::fault::CallsFault;
@@ -35,5 +36,13 @@ impl From<AllocError> for Failure {
 
     fn from(_e: AllocError) -> Failure {
         Failure::Memory
+    }
+}
+
+impl From<UnknownChoice> for Failure {
+    ghost from_gives = { λ _ r. r ≡ Choice };
+
+    fn from(_e: UnknownChoice) -> Failure {
+        Failure::Choice
     }
 }

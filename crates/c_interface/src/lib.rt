@@ -4,7 +4,6 @@
 mod delivering;
 mod exports;
 pub mod failure;
-mod numbered;
 mod reading;
 mod searching;
 pub mod structs;

@@ -1,8 +1,7 @@
 // Reading a text.
 ghost use Rattle.c_interface.specs.Reading.{Reads};
 
-use crate::delivering::{fault_of, no_fault};
-use crate::structs::Sizes;
+use crate::structs::{Sizes, TextFault};
 use std::alloc::Global;
 use tasktext::text::read_task;
 use textfault::fault::ReadFault;
@@ -14,19 +13,19 @@ pub(crate) fn read(heap: Global, text: &[u8]) -> Sizes
     match read_task(heap, text) {
         Ok(task) => Sizes {
             status: 0,
-            fault: no_fault(),
+            fault: TextFault::default(),
             facts: task.facts(),
             actions: task.action_count() as u16,
         },
         Err(ReadFault::Text(fault)) => Sizes {
             status: 1,
-            fault: fault_of(fault),
+            fault: fault.into(),
             facts: 0,
             actions: 0,
         },
         Err(ReadFault::Memory) => Sizes {
             status: 5,
-            fault: no_fault(),
+            fault: TextFault::default(),
             facts: 0,
             actions: 0,
         },

@@ -2,8 +2,8 @@
 ghost use Rattle.c_interface.specs.Delivering.{bytes_of};
 ghost use Rattle.c_interface.specs.Searching.{Searches};
 
-use crate::numbered::{estimator_numbered, queue_numbered};
 use crate::why::Failure;
+use choices::choice::{EstimatorChoice, QueueChoice};
 use choices::finding::find;
 use std::alloc::Global;
 use strips::state::State;
@@ -21,12 +21,8 @@ pub(crate) fn search(
 ) -> Result<Vec<u8>, Failure>
     ensures { Searches text.now start.now rows estimator queue (bytes_of result) }
 {
-    let Some(estimate) = estimator_numbered(estimator) else {
-        return Err(Failure::Choice);
-    };
-    let Some(store) = queue_numbered(queue) else {
-        return Err(Failure::Choice);
-    };
+    let estimate = EstimatorChoice::try_from(estimator)?;
+    let store = QueueChoice::try_from(queue)?;
     let task = read_task(heap, text)?;
     let state = State::of(start);
     let found = find(heap, &task, &state, rows, estimate, store)?;

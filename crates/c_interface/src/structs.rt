@@ -2,7 +2,7 @@
 
 // Why a text is refused: number, line and place; all 0 where no text is.
 #[repr(C)]
-#[derive(Clone, Copy)]
+#[derive(Clone, Copy, Default)]
 pub struct TextFault {
     pub number: u8,
     pub line: u16,

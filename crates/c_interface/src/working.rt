@@ -2,9 +2,9 @@
 ghost use Rattle.c_interface.specs.Delivering.{bytes_of};
 ghost use Rattle.c_interface.specs.Working.{Works};
 
-use crate::numbered::{queue_numbered, rule_numbered};
 use crate::why::Failure;
 use choices::answering::answer;
+use choices::choice::{QueueChoice, RuleChoice};
 use std::alloc::Global;
 use tasktext::text::read_task;
 use wire::answers::encode_answers;
@@ -20,12 +20,8 @@ pub(crate) fn work(
 ) -> Result<Vec<u8>, Failure>
     ensures { Works text.now rule queue calls.now (bytes_of result) }
 {
-    let Some(cost) = rule_numbered(rule) else {
-        return Err(Failure::Choice);
-    };
-    let Some(store) = queue_numbered(queue) else {
-        return Err(Failure::Choice);
-    };
+    let cost = RuleChoice::try_from(rule)?;
+    let store = QueueChoice::try_from(queue)?;
     let asked = decode_calls(heap, calls)?;
     let task = read_task(heap, text)?;
     let answers = answer(heap, task, cost, store, asked.as_slice())?;

@@ -28,10 +28,10 @@ fn answer_by<R: CostRule + Drop, Q: Queue<Key = Figure> + Drop>(
     ensures { IfOk result (λ v. Rights (problem task) (R.CostRule.rule rule) (fresh (problem task)) (map call_of calls.now) (map reply_of v.items)) }
 {
     let queue = Q::new(heap, task.item_count())?;
-    match Session::open_and_work(heap, task, rule, queue, calls) {
-        Ok((_, answers)) => Ok(answers),
-        Err(_) => Err(AllocError),
-    }
+    let (_, answers) = Session::open_and_work(heap, task, rule, queue, calls).map_err(
+        |_| AllocError,
+    )?;
+    Ok(answers)
 }
 
 // Opens a session on the task and works the calls.

@@ -1,4 +1,7 @@
-// Which rule, queue and estimator.
+// Which rule, queue and estimator, and the numbers by which a caller can choose them.
+ghost use Rattle.std.specs.Prelude.{◌≡◌};
+ghost use Rattle.std.specs.Result.{result_ok};
+ghost use Rattle.choices.specs.Numbers.{rule_numbered, queue_numbered, estimator_numbered};
 
 #[derive(Clone, Copy)]
 pub enum RuleChoice {
@@ -18,4 +21,51 @@ pub enum EstimatorChoice {
     Session,
     // Keeping over the larger of a session and blind.
     Keeping,
+}
+
+// A number under which nothing can be chosen.
+#[derive(Clone, Copy, Debug, PartialEq, Eq)]
+pub struct UnknownChoice;
+
+impl TryFrom<u8> for RuleChoice {
+    type Error = UnknownChoice;
+
+    ghost try_from_gives = { λ n r. result_ok r ≡ rule_numbered n };
+
+    fn try_from(number: u8) -> Result<RuleChoice, UnknownChoice> {
+        match number {
+            0 => Ok(RuleChoice::Additive),
+            1 => Ok(RuleChoice::Max),
+            _ => Err(UnknownChoice),
+        }
+    }
+}
+
+impl TryFrom<u8> for QueueChoice {
+    type Error = UnknownChoice;
+
+    ghost try_from_gives = { λ n r. result_ok r ≡ queue_numbered n };
+
+    fn try_from(number: u8) -> Result<QueueChoice, UnknownChoice> {
+        match number {
+            0 => Ok(QueueChoice::Heap),
+            1 => Ok(QueueChoice::Table),
+            _ => Err(UnknownChoice),
+        }
+    }
+}
+
+impl TryFrom<u8> for EstimatorChoice {
+    type Error = UnknownChoice;
+
+    ghost try_from_gives = { λ n r. result_ok r ≡ estimator_numbered n };
+
+    fn try_from(number: u8) -> Result<EstimatorChoice, UnknownChoice> {
+        match number {
+            0 => Ok(EstimatorChoice::Blind),
+            1 => Ok(EstimatorChoice::Session),
+            2 => Ok(EstimatorChoice::Keeping),
+            _ => Err(UnknownChoice),
+        }
+    }
 }

@@ -5,9 +5,11 @@ ghost use Rattle.strips.specs.Standing.{standing};
 ghost use Rattle.strips.specs.Tasks.{problem};
 ghost use Rattle.session.specs.Sessions.{task_of, Sound};
 ghost use Rattle.choices.specs.Finding.{Finds};
+ghost use Rattle.choices.specs.Queries.{FindsFor};
 
 use crate::choice::{EstimatorChoice, QueueChoice};
 use crate::found::Found;
+use crate::query::Query;
 use estimator::blind::Blind;
 use estimator::estimator::Estimator;
 use estimator::keeping::Keeping;
@@ -26,26 +28,6 @@ use std::alloc::{AllocError, Global};
 use strips::state::State;
 use strips::task::Task;
 
-// Searches with so many rows. More than a search takes are not got, as it refuses them.
-fn find_by<E: Estimator, P: Queue<Key = Pair> + Drop>(
-    heap: Global,
-    task: &Task,
-    start: &State,
-    rows: usize,
-    est: &mut E,
-) -> Result<Found, AllocError>
-    ensures { IfOk result (λ f. E.Estimator.agrees est.old → E.Estimator.suits est.old (problem task.now) → Finds (problem task.now) (standing start.now) rows f.steps.items f.result) }
-{
-    let lent = rows.min(65536);
-    let mut frontier = P::new(heap, lent)?;
-    let mut records = Vec::new(heap);
-    records.resize(lent, Row::unused())?;
-    let mut steps = Vec::new(heap);
-    steps.resize(lent, 0u16)?;
-    let result = search(task, start, est, &mut frontier, &mut records, &mut steps);
-    Ok(Found { result, steps })
-}
-
 // A session of its own on the task, under the max rule, as an estimator.
 fn session_on<F: Queue<Key = Figure> + Drop>(
     heap: Global,
@@ -55,58 +37,53 @@ fn session_on<F: Queue<Key = Figure> + Drop>(
 {
     let own = task.twin(heap)?;
     let queue = F::new(heap, own.item_count())?;
-    match Session::open(heap, own, MaxRule, queue) {
-        Ok(session) => match SessionEstimator::new(heap, session) {
-            Ok(estimator) => Ok(estimator),
-            Err(_) => Err(AllocError),
-        },
-        Err(_) => Err(AllocError),
+    let session = Session::open(heap, own, MaxRule, queue).map_err(|_| AllocError)?;
+    SessionEstimator::new(heap, session).map_err(|_| AllocError)
+}
+
+impl Query<'_> {
+    // Searches by the estimator. More rows than a search takes are not got, as it refuses them.
+    fn find_by<P: Queue<Key = Pair> + Drop, E: Estimator>(
+        &self,
+        heap: Global,
+        est: &mut E,
+    ) -> Result<Found, AllocError>
+        ensures { IfOk result (λ f. E.Estimator.agrees est.old → E.Estimator.suits est.old (problem self.now.task.now) → FindsFor self.now f) }
+    {
+        let lent = self.rows.min(65536);
+        let mut frontier = P::new(heap, lent)?;
+        let mut records = vec![in heap; Row::unused(); lent]?;
+        let mut steps = vec![in heap; 0u16; lent]?;
+        let result = search(
+            self.task,
+            self.start,
+            est,
+            &mut frontier,
+            &mut records,
+            &mut steps,
+        );
+        Ok(Found { result, steps })
     }
-}
 
-// Searches by a session.
-fn find_by_session<F: Queue<Key = Figure> + Drop, P: Queue<Key = Pair> + Drop>(
-    heap: Global,
-    task: &Task,
-    start: &State,
-    rows: usize,
-) -> Result<Found, AllocError>
-    ensures { IfOk result (λ f. Finds (problem task.now) (standing start.now) rows f.steps.items f.result) }
-{
-    let mut est = session_on::<F>(heap, task)?;
-    find_by::<SessionEstimator<F>, P>(heap, task, start, rows, &mut est)
-}
-
-// Searches by keeping over the larger of a session and blind.
-fn find_by_keeping<F: Queue<Key = Figure> + Drop, P: Queue<Key = Pair> + Drop>(
-    heap: Global,
-    task: &Task,
-    start: &State,
-    rows: usize,
-) -> Result<Found, AllocError>
-    ensures { IfOk result (λ f. Finds (problem task.now) (standing start.now) rows f.steps.items f.result) }
-{
-    let mut est = Keeping::new(Larger::new(session_on::<F>(heap, task)?, Blind));
-    find_by::<Keeping<Larger<SessionEstimator<F>, Blind>>, P>(heap, task, start, rows, &mut est)
-}
-
-// Searches by an estimator, over queues of one kind.
-fn find_over<F: Queue<Key = Figure> + Drop, P: Queue<Key = Pair> + Drop>(
-    heap: Global,
-    task: &Task,
-    start: &State,
-    rows: usize,
-    estimate: EstimatorChoice,
-) -> Result<Found, AllocError>
-    ensures { IfOk result (λ f. Finds (problem task.now) (standing start.now) rows f.steps.items f.result) }
-{
-    match estimate {
-        EstimatorChoice::Blind => {
-            let mut est = Blind;
-            find_by::<Blind, P>(heap, task, start, rows, &mut est)
+    // Searches by an estimator, over queues of one kind.
+    fn find_over<F: Queue<Key = Figure> + Drop, P: Queue<Key = Pair> + Drop>(
+        &self,
+        heap: Global,
+        estimate: EstimatorChoice,
+    ) -> Result<Found, AllocError>
+        ensures { IfOk result (FindsFor self.now) }
+    {
+        match estimate {
+            EstimatorChoice::Blind => self.find_by::<P, Blind>(heap, &mut Blind),
+            EstimatorChoice::Session => {
+                let mut est = session_on::<F>(heap, self.task)?;
+                self.find_by::<P, SessionEstimator<F>>(heap, &mut est)
+            }
+            EstimatorChoice::Keeping => {
+                let mut est = Keeping::new(Larger::new(session_on::<F>(heap, self.task)?, Blind));
+                self.find_by::<P, Keeping<Larger<SessionEstimator<F>, Blind>>>(heap, &mut est)
+            }
         }
-        EstimatorChoice::Session => find_by_session::<F, P>(heap, task, start, rows),
-        EstimatorChoice::Keeping => find_by_keeping::<F, P>(heap, task, start, rows),
     }
 }
 
@@ -121,12 +98,11 @@ pub fn find(
 ) -> Result<Found, AllocError>
     ensures { IfOk result (λ f. Finds (problem task.now) (standing start.now) rows f.steps.items f.result) }
 {
+    let query = Query { task, start, rows };
     match queue {
-        QueueChoice::Heap => find_over::<HeapQueue<Figure>, HeapQueue<Pair>>(
-            heap, task, start, rows, estimate,
-        ),
-        QueueChoice::Table => find_over::<TableQueue<Figure>, TableQueue<Pair>>(
-            heap, task, start, rows, estimate,
-        ),
+        QueueChoice::Heap => query.find_over::<HeapQueue<Figure>, HeapQueue<Pair>>(heap, estimate),
+        QueueChoice::Table => {
+            query.find_over::<TableQueue<Figure>, TableQueue<Pair>>(heap, estimate)
+        }
     }
 }

@@ -5,3 +5,4 @@ pub mod answering;
 pub mod choice;
 pub mod finding;
 pub mod found;
+mod query;

@@ -6,21 +6,12 @@ mod asked;
 mod words;
 
 use anyhow::anyhow;
-use asked::asked_for;
-use figure::figure::Figure;
-use queue::queue::Queue;
-use queue::table::TableQueue;
-use rules::additive::AdditiveRule;
-use rules::largest::MaxRule;
-use rules::rule::CostRule;
-use session::call::Call;
-use session::session::Session;
+use asked::{Asked, asked_for};
+use choices::answering::answer;
+use choices::choice::QueueChoice;
 use std::env;
-use std::io::Read;
 use strips::task::Task;
-use tasktext::text::read_task;
-use textfault::fault::ReadFault;
-use wording::refusal::Refusal;
+use wording::input::task_on_input;
 use words::tell;
 
 const HELP: &str = "figures: keeps the figures of a task up to date as facts come and go.
@@ -36,52 +27,26 @@ none for what is out of reach. A refused text is told with the refusal's
 number, the line, the place and what is wrong. The status is 1 only where the
 job could not be done.";
 
-fn work<R: CostRule + Drop>(
-    rt: &HostRuntime,
-    task: Task,
-    rule: R,
-    calls: &[Call],
-) -> anyhow::Result<()> {
+// Works the calls over a table, which gives rows of equal figures in the order of their items.
+fn work(rt: &HostRuntime, task: Task, asked: &Asked) -> anyhow::Result<()> {
     let facts = usize::from(task.facts());
-    let queue: TableQueue<Figure> = TableQueue::new(rt.alloc(), task.item_count())?;
-    match Session::open_and_work(rt.alloc(), task, rule, queue, calls) {
-        Ok(worked) => {
-            for (call, answer) in calls.iter().zip(worked.1.iter()) {
-                tell(rt, facts, *call, answer)?;
-            }
-            Ok(())
-        }
-        Err(_) => Err(anyhow!("no memory for a session")),
+    let Ok(answers) = answer(rt.alloc(), task, asked.rule, QueueChoice::Table, &asked.calls) else {
+        return Err(anyhow!("no memory for a session"));
+    };
+    for (call, answer) in asked.calls.iter().zip(&answers) {
+        tell(rt, facts, *call, answer)?;
     }
-}
-
-fn wants_help(rt: &HostRuntime) -> anyhow::Result<bool> {
-    match env::args(rt)?.skip(1).next() {
-        Some(word) => Ok(word.as_str() == "--help"),
-        None => Ok(true),
-    }
+    Ok(())
 }
 
 fn run(rt: &HostRuntime) -> anyhow::Result<()> {
-    if wants_help(rt)? {
+    if env::args(rt)?.nth(1).is_none_or(|word| word.as_str() == "--help") {
         return Ok(println!(rt; "{HELP}")?);
     }
     let asked = asked_for(rt)?;
-    let mut text = Vec::new(rt.alloc());
-    rt.stdin().read_to_end(&mut text)?;
-    match read_task(rt.alloc(), text.as_slice()) {
-        Ok(task) => {
-            if asked.by_max {
-                work(rt, task, MaxRule, asked.calls.as_slice())
-            } else {
-                work(rt, task, AdditiveRule, asked.calls.as_slice())
-            }
-        }
-        Err(ReadFault::Text(fault)) => {
-            let refusal = Refusal(fault);
-            Ok(println!(rt; "{refusal}")?)
-        }
-        Err(ReadFault::Memory) => Err(anyhow!("no memory for a task")),
+    match task_on_input(rt)? {
+        Ok(task) => work(rt, task, &asked),
+        Err(fault) => Ok(println!(rt; "{fault}")?),
     }
 }
 

@@ -9,10 +9,7 @@ use rehearsal::verdict::Verdict;
 use search_law::outcome::Outcome;
 use std::{env, fs};
 use strips::task::Task;
-use tasktext::text::read_task;
-use textfault::fault::ReadFault;
-use wording::refusal::Refusal;
-use wording::words::Words;
+use wording::input::task_of;
 
 const HELP: &str = "known_plans: plans the tasks of files and rehearses the plans.
 
@@ -27,18 +24,18 @@ number, line and place of its first fault.";
 // Whether the steps of the answer are a plan, taken one by one.
 fn rehearses(task: &Task, planned: &Planned) -> bool {
     let mut live = task.start_state();
-    match rehearse(task, &mut live, planned.steps.as_slice()) {
-        Ok(Verdict::Plan) => true,
-        _ => false,
-    }
+    matches!(
+        rehearse(task, &mut live, &planned.steps),
+        Ok(Verdict::Plan)
+    )
 }
 
 fn tell(rt: &HostRuntime, name: &str, task: &Task) -> anyhow::Result<()> {
     let Ok(planned) = plan(rt.alloc(), task) else {
         return Err(anyhow!("no memory to plan"));
     };
-    let additive = Words(planned.additive);
-    let max = Words(planned.max);
+    let additive = planned.additive;
+    let max = planned.max;
     print!(rt; "{name}: goal figure additive {additive}, max {max}; ")?;
     match planned.outcome {
         Outcome::Plan { length, used: _ } => {
@@ -60,13 +57,9 @@ fn work(rt: &HostRuntime, name: &str) -> anyhow::Result<()> {
     let Ok(text) = fs::read(rt, name) else {
         return Err(anyhow!("{name} cannot be read"));
     };
-    match read_task(rt.alloc(), text.as_slice()) {
+    match task_of(rt.alloc(), &text)? {
         Ok(task) => tell(rt, name, &task),
-        Err(ReadFault::Text(fault)) => {
-            let refusal = Refusal(fault);
-            Ok(println!(rt; "{name}: {refusal}")?)
-        }
-        Err(ReadFault::Memory) => Err(anyhow!("no memory for a task")),
+        Err(fault) => Ok(println!(rt; "{name}: {fault}")?),
     }
 }
 

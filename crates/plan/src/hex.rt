@@ -1,37 +1,40 @@
 // Answers in hexadecimal.
-use figure::figure::Figure;
 use planning::planned::Planned;
 use search_law::outcome::Outcome;
+use std::fmt;
 use textfault::fault::LoadFault;
 
-// None is all ones.
-fn number_of(figure: Figure) -> u32 {
-    match figure.number() {
-        Some(number) => number,
-        None => u32::MAX,
-    }
-}
+#[derive(Clone, Copy)]
+pub struct InHex<'a>(pub &'a Planned);
 
-pub fn tell_in_hex(rt: &HostRuntime, planned: &Planned) -> anyhow::Result<()> {
-    let additive = number_of(planned.additive);
-    let max = number_of(planned.max);
-    println!(rt; "11{additive:08x}{max:08x}")?;
-    match planned.outcome {
-        Outcome::Plan { length, used: _ } => {
-            print!(rt; "12{length:04x}")?;
-            for step in planned.steps.iter() {
-                print!(rt; "{step:04x}")?;
+impl fmt::Display for InHex<'_> {
+    fn fmt<W: fmt::Write>(&self, f: &mut fmt::Formatter<W>) -> fmt::Result {
+        let planned = self.0;
+        // None is all ones.
+        let additive = planned.additive.number().unwrap_or(u32::MAX);
+        let max = planned.max.number().unwrap_or(u32::MAX);
+        writeln!(f, "11{additive:08x}{max:08x}")?;
+        match planned.outcome {
+            Outcome::Plan { length, used: _ } => {
+                write!(f, "12{length:04x}")?;
+                for step in &planned.steps {
+                    write!(f, "{step:04x}")?;
+                }
+                Ok(())
             }
-            Ok(println!(rt; "")?)
+            Outcome::NoPlan { used: _ } => write!(f, "13"),
+            Outcome::RowsFull { used: _ } => write!(f, "14"),
         }
-        Outcome::NoPlan { used: _ } => Ok(println!(rt; "13")?),
-        Outcome::RowsFull { used: _ } => Ok(println!(rt; "14")?),
     }
 }
 
-pub fn tell_fault_in_hex(rt: &HostRuntime, fault: LoadFault) -> anyhow::Result<()> {
-    let number = fault.number();
-    let line = fault.place().line;
-    let at = fault.place().at;
-    Ok(println!(rt; "15{number:02x}{line:04x}{at:04x}")?)
+#[derive(Clone, Copy)]
+pub struct FaultInHex(pub LoadFault);
+
+impl fmt::Display for FaultInHex {
+    fn fmt<W: fmt::Write>(&self, f: &mut fmt::Formatter<W>) -> fmt::Result {
+        let number = self.0.number();
+        let place = self.0.place();
+        write!(f, "15{number:02x}{:04x}{:04x}", place.line, place.at)
+    }
 }

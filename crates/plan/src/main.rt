@@ -5,15 +5,13 @@ mod hex;
 mod words;
 
 use anyhow::anyhow;
-use hex::{tell_fault_in_hex, tell_in_hex};
-use planning::planned::Planned;
+use hex::{FaultInHex, InHex};
 use planning::planning::plan;
 use std::env;
-use std::io::Read;
-use tasktext::text::read_task;
-use textfault::fault::ReadFault;
-use wording::refusal::Refusal;
-use words::tell_in_words;
+use strips::task::Task;
+use textfault::fault::LoadFault;
+use wording::input::task_on_input;
+use words::InWords;
 
 const HELP: &str = "plan: searches a shortest plan of a task.
 
@@ -26,65 +24,64 @@ bytes each), or 13 where there is no plan, or 14 where the rows are full. A
 refused text gives one line: 15, the refusal's number (1 byte), its line and
 its place (2 bytes each). With --words the same is told in words.";
 
-// How the answer is told.
+// How an answer is told.
 #[derive(Clone, Copy)]
-enum Mode {
+enum Form {
     Hex,
     Words,
-    Help,
 }
 
-fn asked(rt: &HostRuntime) -> anyhow::Result<Mode> {
+impl Form {
+    fn tell_plan(self, rt: &HostRuntime, task: &Task) -> anyhow::Result<()> {
+        let Ok(planned) = plan(rt.alloc(), task) else {
+            return Err(anyhow!("no memory to plan"));
+        };
+        match self {
+            Form::Hex => Ok(println!(rt; "{}", InHex(&planned))?),
+            Form::Words => Ok(println!(rt; "{}", InWords(&planned))?),
+        }
+    }
+
+    fn tell_fault(self, rt: &HostRuntime, fault: LoadFault) -> anyhow::Result<()> {
+        match self {
+            Form::Hex => Ok(println!(rt; "{}", FaultInHex(fault))?),
+            Form::Words => Ok(println!(rt; "{fault}")?),
+        }
+    }
+}
+
+// What the arguments ask for.
+#[derive(Clone, Copy)]
+enum Asked {
+    Help,
+    Plan(Form),
+}
+
+fn asked(rt: &HostRuntime) -> anyhow::Result<Asked> {
     let mut args = env::args(rt)?.skip(1);
     let Some(first) = args.next() else {
-        return Ok(Mode::Hex);
+        return Ok(Asked::Plan(Form::Hex));
     };
     if args.next().is_some() {
         return Err(anyhow!("at most one argument: --words or --help"));
     }
     match first.as_str() {
-        "--words" => Ok(Mode::Words),
-        "--help" => Ok(Mode::Help),
+        "--words" => Ok(Asked::Plan(Form::Words)),
+        "--help" => Ok(Asked::Help),
         _ => Err(anyhow!(
             "the arguments known are --words and --help; the task text comes from standard input"
         )),
     }
 }
 
-fn tell(rt: &HostRuntime, planned: &Planned, in_words: bool) -> anyhow::Result<()> {
-    if in_words {
-        tell_in_words(rt, planned)
-    } else {
-        tell_in_hex(rt, planned)
-    }
-}
-
-fn respond(rt: &HostRuntime, in_words: bool) -> anyhow::Result<()> {
-    let mut text = Vec::new(rt.alloc());
-    rt.stdin().read_to_end(&mut text)?;
-    match read_task(rt.alloc(), text.as_slice()) {
-        Ok(task) => {
-            let Ok(planned) = plan(rt.alloc(), &task) else {
-                return Err(anyhow!("no memory to plan"));
-            };
-            tell(rt, &planned, in_words)
-        }
-        Err(ReadFault::Text(fault)) => {
-            if in_words {
-                let refusal = Refusal(fault);
-                return Ok(println!(rt; "{refusal}")?);
-            }
-            tell_fault_in_hex(rt, fault)
-        }
-        Err(ReadFault::Memory) => Err(anyhow!("no memory for a task")),
-    }
-}
-
 fn run(rt: &HostRuntime) -> anyhow::Result<()> {
-    match asked(rt)? {
-        Mode::Help => Ok(println!(rt; "{HELP}")?),
-        Mode::Hex => respond(rt, false),
-        Mode::Words => respond(rt, true),
+    let form = match asked(rt)? {
+        Asked::Help => return Ok(println!(rt; "{HELP}")?),
+        Asked::Plan(form) => form,
+    };
+    match task_on_input(rt)? {
+        Ok(task) => form.tell_plan(rt, &task),
+        Err(fault) => form.tell_fault(rt, fault),
     }
 }
 

@@ -1,15 +1,17 @@
 // Why the program ends with status 1.
 use std::alloc::AllocError;
-use std::{fmt, io};
+use std::io;
+use thiserror::Error;
+use wording::input::InputError;
 
-#[derive(Drop)]
+#[derive(Debug, Drop, Error)]
 pub enum Failure {
-    // Arguments other than --help.
+    #[error("the only argument is --help; the task text comes from standard input")]
     Arguments,
-    // There is no memory.
+    #[error("out of memory")]
     Memory,
-    // The input cannot be read, or the output not written.
-    Io(io::Error),
+    #[error("{0}")]
+    Io(#[from] io::Error),
 }
 
 impl From<AllocError> for Failure {
@@ -18,21 +20,11 @@ impl From<AllocError> for Failure {
     }
 }
 
-impl From<io::Error> for Failure {
-    fn from(e: io::Error) -> Failure {
-        Failure::Io(e)
-    }
-}
-
-impl fmt::Display for Failure {
-    fn fmt<W: fmt::Write>(&self, f: &mut fmt::Formatter<W>) -> fmt::Result {
-        match self {
-            Failure::Arguments => write!(
-                f,
-                "the only argument is --help; the task text comes from standard input"
-            ),
-            Failure::Memory => write!(f, "out of memory"),
-            Failure::Io(e) => write!(f, "{e}"),
+impl From<InputError> for Failure {
+    fn from(e: InputError) -> Failure {
+        match e {
+            InputError::Memory => Failure::Memory,
+            InputError::Io(e) => Failure::Io(e),
         }
     }
 }

@@ -6,17 +6,13 @@ mod failure;
 
 use column::column_of;
 use failure::Failure;
-use figure::figure::Figure;
 use rules::additive::AdditiveRule;
 use rules::largest::MaxRule;
 use std::env;
-use std::io::Read;
 use std::process::ExitCode;
 use strips::task::Task;
-use tasktext::text::read_task;
-use textfault::fault::ReadFault;
-use wording::refusal::Refusal;
-use wording::words::Words;
+use wording::input::task_on_input;
+use wording::item::Item;
 
 const HELP: &str = "table: prints the table of figures of a task.
 
@@ -29,34 +25,21 @@ none for what is out of reach. A refused text is told with the refusal's
 number, the line, the place and what is wrong. The status is 1 only where the
 job could not be done.";
 
-fn print_items(
-    rt: &impl Print,
-    facts: usize,
-    sums: &[Figure],
-    largest: &[Figure],
-) -> Result<(), Failure> {
-    for (item, pair) in sums.iter().zip(largest.iter()).enumerate() {
-        let additive = Words(*pair.0);
-        let max = Words(*pair.1);
-        if item < facts {
-            println!(rt; "fact {item}: additive {additive}, max {max}")?;
-        } else {
-            let action = item - facts;
-            println!(rt; "action {action}: additive {additive}, max {max}")?;
-        }
-    }
-    Ok(())
-}
-
 fn print_table(rt: &HostRuntime, task: &Task) -> Result<(), Failure> {
     let sums = column_of(rt.alloc(), task, &AdditiveRule)?;
     let largest = column_of(rt.alloc(), task, &MaxRule)?;
     let facts = task.facts();
     let actions = task.action_count();
     println!(rt; "figures of {facts} facts and {actions} actions")?;
-    print_items(rt, usize::from(facts), &sums.figures, &largest.figures)?;
-    let additive = Words(sums.goal);
-    let max = Words(largest.goal);
+    for (number, (additive, max)) in sums.figures.iter().zip(&largest.figures).enumerate() {
+        let item = Item {
+            facts: usize::from(facts),
+            number,
+        };
+        println!(rt; "{item}: additive {additive}, max {max}")?;
+    }
+    let additive = sums.goal;
+    let max = largest.goal;
     println!(rt; "goal figure: additive {additive}, max {max}")?;
     Ok(())
 }
@@ -77,15 +60,9 @@ fn run(rt: &HostRuntime) -> Result<(), Failure> {
     if wants_help(rt)? {
         return Ok(println!(rt; "{HELP}")?);
     }
-    let mut text = Vec::new(rt.alloc());
-    rt.stdin().read_to_end(&mut text)?;
-    match read_task(rt.alloc(), &text) {
+    match task_on_input(rt)? {
         Ok(task) => print_table(rt, &task),
-        Err(ReadFault::Text(fault)) => {
-            let refusal = Refusal(fault);
-            Ok(println!(rt; "{refusal}")?)
-        }
-        Err(ReadFault::Memory) => Err(Failure::Memory),
+        Err(fault) => Ok(println!(rt; "{fault}")?),
     }
 }
 

@@ -2,10 +2,11 @@
 --
 --   Read         the bytes are those of some calls and then of a rest, and whatever calls they are of, the rest is of some
 --   read_none    at the beginning
+--   less         a call has some bytes
 --   read_more    one call further
 --   read_all     at the end
 --   read_stuck   at bytes that begin with those of no call
-use Rattle.std.proofs.Common.{◌≡◌, ℕ, ◌<◌, List, [], ◌∷◌, ◌++◌, length, drop, sym, refl, ap, ◌∙◌, arith}
+use Rattle.std.proofs.Common.{◌≡◌, ℕ, ◌<◌, List, [], ◌∷◌, ◌++◌, length, sym, refl, ap, ◌∙◌, subst, arith}
 use Rattle.std.specs.List.{flat_map, AllByRecursion}
 use Rattle.std.proofs.lemmas.List.{append-nil, append_assoc, flat_map_more}
 use Rattle.std.proofs.ByRecursion.{All-append}
@@ -49,16 +50,27 @@ same_rest goal (settle n) x y e = cc
 same_rest goal (figure i) x y e = cc
 same_rest goal goal x y e = cc
 
--- calls that a nonempty rest is of begin with one call, and the others are those of what follows it
-others : (rest : List ℕ) (c : Call) (n : ℕ) → Begins rest c n → (ds : List Call) → Writes rest ds → (es : List Call) × Writes (drop n rest) es
-others rest c n b [] w = absurd (let z : 0 < length rest = omega (arith, b.some, b.fits) in omega (arith, z, ap length w.is))
-others rest c n b (d ∷ ds) w = (ds, record { small = w.small.1; is = same_rest c d (drop n rest) (flat_map call_bytes ds) (sym b.is ∙ w.is) })
+-- a call has some bytes
+shorter : (c : Call) (rest : List ℕ) → length rest < length (call_bytes c ++ rest)
+shorter (enter f) rest = omega arith
+shorter (strike f) rest = omega arith
+shorter (settle n) rest = omega arith
+shorter (figure i) rest = omega arith
+shorter goal rest = omega arith
 
-pub read_more : (bytes : List ℕ) (done : List Call) (rest : List ℕ) (c : Call) (n : ℕ) → Read bytes done rest → Begins rest c n → Read bytes (done ++ c ∷ []) (drop n rest)
-read_more bytes done rest c n r b = record {
+pub less : (bytes : List ℕ) (c : Call) (rest : List ℕ) → Begins bytes c rest → length rest < length bytes
+less bytes c rest b = subst (λ t. length rest < length t) (sym b.is) (shorter c rest)
+
+-- calls that a nonempty rest is of begin with one call, and the others are those of what follows it
+others : (rest : List ℕ) (c : Call) (behind : List ℕ) → Begins rest c behind → (ds : List Call) → Writes rest ds → (es : List Call) × Writes behind es
+others rest c behind b [] w = absurd (omega (arith, less rest c behind b, ap length w.is))
+others rest c behind b (d ∷ ds) w = (ds, record { small = w.small.1; is = same_rest c d behind (flat_map call_bytes ds) (sym b.is ∙ w.is) })
+
+pub read_more : (bytes : List ℕ) (done : List Call) (rest : List ℕ) (c : Call) (behind : List ℕ) → Read bytes done rest → Begins rest c behind → Read bytes (done ++ c ∷ []) behind
+read_more bytes done rest c behind r b = record {
   small = All-append Small done (c ∷ []) r.small (b.small, tt);
-  is = r.is ∙ ap (λ t. flat_map call_bytes done ++ t) b.is ∙ sym (append_assoc (flat_map call_bytes done) (call_bytes c) (drop n rest)) ∙ ap (λ t. t ++ drop n rest) (flat_map_more call_bytes [] done c);
-  back = λ cs w. let h = r.back cs w in others rest c n b h.0 h.1;
+  is = r.is ∙ ap (λ t. flat_map call_bytes done ++ t) b.is ∙ sym (append_assoc (flat_map call_bytes done) (call_bytes c) behind) ∙ ap (λ t. t ++ behind) (flat_map_more call_bytes [] done c);
+  back = λ cs w. let h = r.back cs w in others rest c behind b h.0 h.1;
 }
 
 pub read_all : (bytes : List ℕ) (done : List Call) (rest : List ℕ) → rest ≡ [] → Read bytes done rest → Writes bytes done

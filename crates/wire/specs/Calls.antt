@@ -3,10 +3,10 @@
 --   call_bytes   a call in bytes
 --   Small        the call's number has room in them
 --   Writes       the bytes are those of the calls, one after another
---   Begins       the bytes begin with those of a call, so many of them
+--   Begins       the bytes are those of a call and then a rest
 --   Unreadable   the bytes begin with those of no call
 --   Decoded      what reading bytes as calls answers
-use Rattle.std.specs.Prelude.{◌≡◌, ℕ, ◌<◌, ◌≤◌, List, [], ◌∷◌, ◌++◌, length, drop, ◌≢◌}
+use Rattle.std.specs.Prelude.{◌≡◌, ℕ, ◌<◌, List, [], ◌∷◌, ◌++◌, ◌≢◌}
 use Rattle.std.specs.List.{flat_map, AllByRecursion}
 use Rattle.model.specs.Runs.{Call}
 use Rattle.model.specs.Runs.Call.{enter, strike, settle, figure, goal}
@@ -33,12 +33,10 @@ pub record Writes (bytes : List ℕ) (calls : List Call) : Type 0 where
   pub small : AllByRecursion Small calls
   pub is : bytes ≡ flat_map call_bytes calls
 
--- the bytes begin with those of the call, n of them
-pub record Begins (bytes : List ℕ) (call : Call) (n : ℕ) : Type 0 where
+-- the bytes are those of the call, and then the rest
+pub record Begins (bytes : List ℕ) (call : Call) (rest : List ℕ) : Type 0 where
   pub small : Small call
-  pub is : bytes ≡ call_bytes call ++ drop n bytes
-  pub some : 0 < n
-  pub fits : n ≤ length bytes
+  pub is : bytes ≡ call_bytes call ++ rest
 
 -- the bytes begin with those of no call
 abbrev pub Unreadable : List ℕ → Type 0

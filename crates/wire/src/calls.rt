@@ -8,38 +8,22 @@ use crate::fault::CallsFault;
 use session::call::Call;
 use std::alloc::Global;
 
-// A call, and how many bytes it takes.
-#[derive(Clone, Copy)]
-struct Begun {
-    call: Call,
-    size: usize,
-}
-
-// The call that the bytes begin with.
-fn first_call(bytes: &[u8]) -> Option<Begun>
-    ensures { MatchOption result (Unreadable bytes.now) (λ b. Begins bytes.now (call_of b.call) b.size) }
+// The call that the bytes begin with, and the bytes behind it.
+fn first_call(bytes: &[u8]) -> Option<(Call, &[u8])>
+    ensures { MatchOption result (Unreadable bytes.now) (λ b. Begins bytes.now (call_of b.0) b.1.now) }
 {
     match bytes {
-        [1, fact, ..] => Some(Begun {
-            call: Call::Enter(*fact),
-            size: 2,
-        }),
-        [2, fact, ..] => Some(Begun {
-            call: Call::Strike(*fact),
-            size: 2,
-        }),
-        [3, high, low, ..] => Some(Begun {
-            call: Call::Settle(usize::from(*high) * 256 + usize::from(*low)),
-            size: 3,
-        }),
-        [4, high, low, ..] => Some(Begun {
-            call: Call::Figure(usize::from(*high) * 256 + usize::from(*low)),
-            size: 3,
-        }),
-        [5, ..] => Some(Begun {
-            call: Call::Goal,
-            size: 1,
-        }),
+        [1, fact, rest @ ..] => Some((Call::Enter(*fact), rest)),
+        [2, fact, rest @ ..] => Some((Call::Strike(*fact), rest)),
+        [3, high, low, rest @ ..] => Some((
+            Call::Settle(usize::from(u16::from_be_bytes([*high, *low]))),
+            rest,
+        )),
+        [4, high, low, rest @ ..] => Some((
+            Call::Figure(usize::from(u16::from_be_bytes([*high, *low]))),
+            rest,
+        )),
+        [5, rest @ ..] => Some((Call::Goal, rest)),
         _ => None,
     }
 }
@@ -49,13 +33,13 @@ pub fn decode_calls(heap: Global, bytes: &[u8]) -> Result<Vec<Call>, CallsFault>
     ensures { Decoded bytes.now result }
 {
     let mut calls = Vec::new(heap);
-    let mut at = 0;
-    while at < bytes.len() {
-        let Some(begun) = first_call(&bytes[at..]) else {
+    let mut rest = bytes;
+    while !rest.is_empty() {
+        let Some((call, behind)) = first_call(rest) else {
             return Err(CallsFault::Malformed);
         };
-        calls.push(begun.call)?;
-        at += begun.size;
+        calls.push(call)?;
+        rest = behind;
     }
     Ok(calls)
 }

@@ -9,22 +9,14 @@ use search_law::outcome::Outcome;
 use search_law::refusal::SearchRefusal;
 use std::alloc::{AllocError, Global};
 
-// Appends so many steps.
-fn put_steps(bytes: &mut Vec<u8>, steps: &[u16], count: usize) -> Result<(), AllocError>
-    ensures { OnOk result (bytes.new.items ≡ bytes.old.items ++ flat_map two (take count steps.now)) }
+// Appends steps.
+fn put_steps(bytes: &mut Vec<u8>, steps: &[u16]) -> Result<(), AllocError>
+    ensures { OnOk result (bytes.new.items ≡ bytes.old.items ++ flat_map two steps.now) }
 {
-    for k in 0..count.min(steps.len()) {
-        bytes.extend_from_slice(&steps[k].to_be_bytes())?;
+    for step in steps {
+        bytes.extend_from_slice(&step.to_be_bytes())?;
     }
     Ok(())
-}
-
-// 2 or 3 with the rows used.
-fn put_ending(bytes: &mut Vec<u8>, kind: u8, used: usize) -> Result<(), AllocError>
-    ensures { OnOk result (bytes.new.items ≡ bytes.old.items ++ kind ∷ two used) }
-{
-    let [high, low] = two_bytes(used);
-    bytes.extend_from_slice(&[kind, high, low])
 }
 
 // The bytes of a search's result; a plan's actions are the first steps.
@@ -38,12 +30,19 @@ pub fn encode_search(
     let mut bytes = Vec::new(heap);
     match res {
         Ok(Outcome::Plan { length, used }) => {
-            put_ending(&mut bytes, 1, used)?;
+            let [high, low] = two_bytes(used);
+            bytes.extend_from_slice(&[1, high, low])?;
             bytes.extend_from_slice(&two_bytes(length))?;
-            put_steps(&mut bytes, steps, length)?;
+            put_steps(&mut bytes, &steps[..length.min(steps.len())])?;
         }
-        Ok(Outcome::NoPlan { used }) => put_ending(&mut bytes, 2, used)?,
-        Ok(Outcome::RowsFull { used }) => put_ending(&mut bytes, 3, used)?,
+        Ok(Outcome::NoPlan { used }) => {
+            let [high, low] = two_bytes(used);
+            bytes.extend_from_slice(&[2, high, low])?;
+        }
+        Ok(Outcome::RowsFull { used }) => {
+            let [high, low] = two_bytes(used);
+            bytes.extend_from_slice(&[3, high, low])?;
+        }
         Err(SearchRefusal::StateBeyond { fact }) => bytes.extend_from_slice(&[4, 8, fact])?,
         Err(SearchRefusal::QueueUnfit) => bytes.extend_from_slice(&[4, 11])?,
         Err(SearchRefusal::RowsUnfit) => bytes.extend_from_slice(&[4, 15])?,

@@ -1,5 +1,5 @@
-// Figures and refused texts in words, for the programs.
+// What the programs have in common: items in words, and the task text on standard input.
 #![tactic(auto)]
 
-pub mod refusal;
-pub mod words;
+pub mod input;
+pub mod item;
