@@ -32,10 +32,12 @@ impl<'a> Line<'a> {
     }
 }
 
-// The text that is still to be read.
+// The text that is still to be read, and where reading stands: the line's number, and the column from 1.
 #[derive(Clone, Copy)]
 pub struct Reader<'a> {
     text: &'a [u8],
+    line: u16,
+    column: u16,
 }
 
 impl<'a> Reader<'a> {
@@ -45,7 +47,11 @@ impl<'a> Reader<'a> {
     pub fn new(text: &'a [u8]) -> Reader<'a>
         ensures { left result ≡ text.now }
     {
-        Reader { text }
+        Reader {
+            text,
+            line: 1,
+            column: 1,
+        }
     }
 
     // Whether no text is left.
@@ -55,27 +61,35 @@ impl<'a> Reader<'a> {
         self.text.is_empty()
     }
 
+    fn place(&self) -> Place
+        ensures { (result.line ≡ self.now.line) × (result.at ≡ self.now.column) }
+    {
+        Place {
+            line: self.line,
+            at: self.column,
+        }
+    }
+
     // The next line, as the one of this number, or its first fault. A refused line stays the next one.
     pub fn next_line(&mut self, number: u16) -> Result<Line<'a>, LineFault>
         ensures { ReadLine number (left self.old) (left self.new) result }
     {
         let text = self.text;
         let count = count_digits(text);
-        let place = Place {
-            line: number,
-            at: count as u16 + 1,
-        };
+        self.line = number;
+        self.column = count as u16 + 1;
         match text.get(count) {
-            None => Err(LineFault::Early(place)),
+            None => Err(LineFault::Early(self.place())),
             Some(b'\n') if count > 0 && count % 2 == 0 => {
                 self.text = &text[count + 1..];
+                self.column = 1;
                 Ok(Line {
                     number,
                     digits: &text[..count],
                 })
             }
-            Some(c) if is_digit(*c) => Err(LineFault::Long(place)),
-            Some(_) => Err(LineFault::Digit(place)),
+            Some(c) if is_digit(*c) => Err(LineFault::Long(self.place())),
+            Some(_) => Err(LineFault::Digit(self.place())),
         }
     }
 }
