@@ -1,52 +1,34 @@
 // The heap as a queue. All its memory is got when it is made.
-ghost use Rattle.std.specs.Prelude.{◌≡◌, ℕ, ◌<◌, not, length, replicate, is_some, IfOk, Some, None, slice_index, slice_set};
+ghost use Rattle.std.specs.Prelude.{◌≡◌, ◌<◌, true, false, not, length, replicate, is_some, IfOk, Some, None, slice_set};
 ghost use Rattle.queue.specs.Queues.{held, vacant, Front, Smallest};
 ghost use Rattle.heap.specs.Meaning.{pairs_of, InOrder};
 ghost use Rattle.std.proofs.Common.{rules, arith};
 
-use crate::edits::{remove, store};
+use crate::slots::Slots;
 pub use crate::store::HeapQueue;
 use queue::key::Key;
 use queue::queue::Queue;
 use queue::refusal::QueueRefusal;
 use std::alloc::{AllocError, Global};
 
-// The numbers below `n`, in order.
-fn numbers(heap: Global, n: usize) -> Result<Vec<usize>, AllocError>
-    ensures { IfOk result (λ v. (length v.items ≡ n) × ((k : ℕ) → k < n → slice_index v.items k ≡ k)) }
-{
-    let mut all = Vec::with_capacity(heap, n)?;
-    for i in 0..n {
-        all.push(i)?;
-    }
-    Ok(all)
-}
-
-// A heap of no items: each stands in the slot of its number.
-fn empty<K: Key>(heap: Global, capacity: usize) -> Result<HeapQueue<K>, AllocError>
-    ensures { IfOk result (λ q. (pairs_of q ≡ replicate capacity None) × (q.size ≡ 0)) }
-{
-    let mut keys = Vec::new(heap);
-    keys.resize(capacity, None)?;
-    let slots = numbers(heap, capacity)?;
-    let places = numbers(heap, capacity)?;
-    Ok(HeapQueue {
-        keys,
-        slots,
-        places,
-        size: 0,
-    })
-}
-
 impl<K: Key> HeapQueue<K> {
+    // A heap of no items.
+    fn empty(heap: Global, capacity: usize) -> Result<HeapQueue<K>, AllocError>
+        ensures { IfOk result (λ q. (pairs_of q ≡ replicate capacity None) × (q.size ≡ 0)) }
+    {
+        let keys = vec![in heap; None; capacity]?;
+        let slots = Slots::new(heap, capacity)?;
+        Ok(HeapQueue {
+            keys,
+            slots,
+            size: 0,
+        })
+    }
+
     fn contains(&self, item: usize) -> bool
         ensures { result ≡ held (pairs_of self.now) item }
     {
-        if item < self.keys.len() {
-            self.keys[item].is_some()
-        } else {
-            false
-        }
+        matches!(self.keys.get(item), Some(Some(_)))
     }
 
     // The item in the first slot, with its key.
@@ -58,44 +40,52 @@ impl<K: Key> HeapQueue<K> {
         if self.size == 0 {
             return None;
         }
-        let item = self.slots[0];
-        let first = self.keys[item];
-        match first {
-            Some(key) => Some((item, key)),
-            None => None,
-        }
+        let item = self.slots.item(0);
+        let key = self.keys[item]?;
+        Some((item, key))
     }
 
-    // Adds an item or gives it another key.
-    fn insert(&mut self, item: usize, key: K)
-        requires { item < length (pairs_of self.old) }
+    // Adds an item that is not held.
+    fn add(&mut self, item: usize, key: K)
+        requires within { item < length (pairs_of self.old) }
+        requires free { held (pairs_of self.old) item ≡ false }
         ensures after { pairs_of self.new ≡ slice_set (pairs_of self.old) item (Some key) }
         ensures order { InOrder K.Key.leq self.old → InOrder K.Key.leq self.new }
     {
-        self.size = store(
-            &mut self.keys,
-            &mut self.slots,
-            &mut self.places,
-            self.size,
-            item,
-            key,
-        );
+        let slot = self.slots.place(item);
+        let last = self.size;
+        self.slots.exchange(slot, last);
+        self.keys[item] = Some(key);
+        self.size += 1;
+        self.sift_up(last);
     }
 
-    // Removes an item, if it is held.
-    fn discard(&mut self, item: usize)
+    // Gives an item that is held another key.
+    fn rekey(&mut self, item: usize, key: K)
+        requires within { item < length (pairs_of self.old) }
+        requires present { held (pairs_of self.old) item ≡ true }
+        ensures after { pairs_of self.new ≡ slice_set (pairs_of self.old) item (Some key) }
+        ensures order { InOrder K.Key.leq self.old → InOrder K.Key.leq self.new }
+    {
+        let slot = self.slots.place(item);
+        self.keys[item] = Some(key);
+        self.settle(slot);
+    }
+
+    // Removes an item that is held.
+    fn remove(&mut self, item: usize)
+        requires within { item < length (pairs_of self.old) }
+        requires present { held (pairs_of self.old) item ≡ true }
         ensures after { pairs_of self.new ≡ slice_set (pairs_of self.old) item None }
         ensures order { InOrder K.Key.leq self.old → InOrder K.Key.leq self.new }
     {
-        if self.contains(item) {
-            remove(
-                &mut self.keys,
-                &mut self.slots,
-                &mut self.places,
-                self.size,
-                item,
-            );
-            self.size -= 1;
+        let slot = self.slots.place(item);
+        let last = self.size - 1;
+        self.slots.exchange(slot, last);
+        self.keys[item] = None;
+        self.size = last;
+        if slot < last {
+            self.settle(slot);
         }
     }
 }
@@ -111,7 +101,7 @@ impl<K: Key> Queue for HeapQueue<K> {
     ghost bounded = { first_of (Prim.search rules, Prim.grind (arith, Self.row.coded.inj)) };
 
     fn new(heap: Global, capacity: usize) -> Result<HeapQueue<K>, AllocError> {
-        empty(heap, capacity)
+        HeapQueue::empty(heap, capacity)
     }
 
     fn capacity(&self) -> usize {
@@ -130,23 +120,25 @@ impl<K: Key> Queue for HeapQueue<K> {
         if item >= self.keys.len() {
             return Err(QueueRefusal::Beyond);
         }
-        self.insert(item, key);
+        if self.contains(item) {
+            self.rekey(item, key);
+        } else {
+            self.add(item, key);
+        }
         Ok(())
     }
 
     fn drop_item(&mut self, item: usize) -> bool {
-        let was = self.contains(item);
-        self.discard(item);
-        was
+        let held = self.contains(item);
+        if held {
+            self.remove(item);
+        }
+        held
     }
 
     fn take(&mut self) -> Option<(usize, K)> {
-        match self.root() {
-            Some(pair) => {
-                self.discard(pair.0);
-                Some(pair)
-            }
-            None => None,
-        }
+        let pair = self.root()?;
+        self.remove(pair.0);
+        Some(pair)
     }
 }

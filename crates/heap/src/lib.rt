@@ -1,7 +1,6 @@
 // A queue that is a binary heap: put, re-key, drop and take go up or down one path of it.
 #![tactic(auto)]
 
-mod edits;
 pub mod heap;
 mod sift;
 mod slots;

@@ -1,22 +1,16 @@
 // What a heap keeps, and what holds of it at every moment.
-ghost use Rattle.std.specs.Prelude.{◌≡◌, ℕ, ◌<◌, ◌≤◌, length, is_some, nat_lt, slice_index};
-ghost use Rattle.heap_theory.specs.Heaps.{slot_key};
+ghost use Rattle.std.specs.Prelude.{◌≡◌, ℕ, ◌<◌, ◌≤◌, length, is_some, nat_lt};
+ghost use Rattle.heap_theory.specs.Heaps.{Held};
 
-use queue::key::Key;
+use crate::slots::Slots;
 
-// Keys by item; items by slot, every item in one slot, those that are held first; slots by item.
+// Keys by item, and the slots, in which the items that are held come first.
 #[derive(Drop)]
-pub struct HeapQueue<K: Key> {
+pub struct HeapQueue<K> {
     pub(crate) keys: Vec<Option<K>>,
-    pub(crate) slots: Vec<usize>,
-    pub(crate) places: Vec<usize>,
+    pub(crate) slots: Slots,
     pub(crate) size: usize,
     ghost fits: { size ≤ length keys.items },
-    ghost slots_long: { length slots.items ≡ length keys.items },
-    ghost places_long: { length places.items ≡ length keys.items },
-    ghost slot_within: { (i : ℕ) → i < length keys.items → slice_index slots.items i < length keys.items },
-    ghost slot_back: { (i : ℕ) → i < length keys.items → slice_index places.items (slice_index slots.items i) ≡ i },
-    ghost place_within: { (j : ℕ) → j < length keys.items → slice_index places.items j < length keys.items },
-    ghost place_back: { (j : ℕ) → j < length keys.items → slice_index slots.items (slice_index places.items j) ≡ j },
-    ghost held: { (i : ℕ) → i < length keys.items → is_some (slot_key keys.items slots.items i) ≡ nat_lt i size },
+    ghost slots_long: { length slots.items.items ≡ length keys.items },
+    ghost held: { Held keys.items slots.items.items size },
 }

@@ -50,29 +50,25 @@ within_swap {S} {T} {a} {b} n s an bn all k h =
     (λ ka. ⊎_elim (λ kb. subst (λ v. v < n) (sym (s.second k kb)) (all a an)) (λ kb. subst (λ v. v < n) (sym (s.other k ka kb)) (all k h)) (cases_eq k b))
     (cases_eq k a)
 
-pub paired_swap : (slots places : List ℕ) (n a b : ℕ) → Paired slots places n → a < n → b < n → Paired (set (set slots a (get_or slots b 0)) b (get_or slots a 0)) (set (set places (get_or slots b 0) a) (get_or slots a 0) b) n
-paired_swap slots places n a b p an bn =
-    let x = get_or slots a 0 in
-    let y = get_or slots b 0 in
-    let xn : x < n = p.slot_within a an in
-    let yn : y < n = p.slot_within b bn in
-    let xl : x < length places = subst (λ v. x < v) (sym p.places_long) xn in
-    let yl : y < length places = subst (λ v. y < v) (sym p.places_long) yn in
-    let al : a < length slots = subst (λ v. a < v) (sym p.slots_long) an in
-    let bl : b < length slots = subst (λ v. b < v) (sym p.slots_long) bn in
-    let px : get_or places x 0 ≡ a = p.slot_back a an in
-    let py : get_or places y 0 ≡ b = p.slot_back b bn in
-    let s = set_swapped slots a b al bl in
+-- what an exchange of the slots and of the places leaves: y and x are the items now in the slots a and b
+pub paired_swap : {slots more places : List ℕ} {n : ℕ} (a b y x : ℕ) → Paired slots places n → a < n → b < n → length more ≡ n → Swapped (λ i. get_or slots i 0) (λ i. get_or more i 0) a b → y ≡ get_or more a 0 → x ≡ get_or more b 0 → Paired more (set (set places y a) x b) n
+paired_swap {slots} {more} {places} {n} a b y x p an bn long s ya xb =
+    let yb : y ≡ get_or slots b 0 = ya ∙ s.first a refl in
+    let xa : x ≡ get_or slots a 0 = xb ∙ s.second b refl in
+    let yl : y < length places = subst (λ v. v < length places) (sym yb) (subst (λ v. get_or slots b 0 < v) (sym p.places_long) (p.slot_within b bn)) in
+    let xl : x < length places = subst (λ v. v < length places) (sym xa) (subst (λ v. get_or slots a 0 < v) (sym p.places_long) (p.slot_within a an)) in
+    let px : get_or places x 0 ≡ a = ap (λ v. get_or places v 0) xa ∙ p.slot_back a an in
+    let py : get_or places y 0 ≡ b = ap (λ v. get_or places v 0) yb ∙ p.slot_back b bn in
     let t : Swapped (λ i. get_or places i 0) (λ i. get_or (set (set places y a) x b) i 0) y x =
     subst (λ v. Swapped (λ i. get_or places i 0) (λ i. get_or (set (set places y a) x v) i 0) y x) py
     (subst (λ v. Swapped (λ i. get_or places i 0) (λ i. get_or (set (set places y v) x (get_or places y 0)) i 0) y x) px (set_swapped places y x yl xl)) in
     record {
-      slots_long = simp length-set p.slots_long;
+      slots_long = long;
       places_long = simp length-set p.places_long;
       slot_within = within_swap n s an bn p.slot_within;
-      slot_back = back_swap n s t refl refl px py p.slot_back;
-      place_within = within_swap n t yn xn p.place_within;
-      place_back = back_swap n t s py px refl refl p.place_back;
+      slot_back = back_swap n s t (sym xa) (sym yb) px py p.slot_back;
+      place_within = within_swap n t (subst (λ v. y < v) p.places_long yl) (subst (λ v. x < v) p.places_long xl) p.place_within;
+      place_back = back_swap n t s py px (sym yb) (sym xa) p.place_back;
     }
 
 module _ {K : Type 0} where
