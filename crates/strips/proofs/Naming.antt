@@ -1,11 +1,10 @@
 -- Lists of facts as states, and tests over lists. Assumes nothing.
-use Rattle.std.proofs.Common.{◌≡◌, ℕ, zero, suc, ◌+◌, ◌<◌, Bool, true, false, not, ◌&&◌, ◌||◌, eqb, ◌⊎◌, List, [], ◌∷◌, map, length, get_or, drop, is_some, Decides, Option, sym, refl, ap, ◌∙◌, inl, inr, ⊎_elim, arith}
+use Rattle.std.proofs.Common.{◌≡◌, ℕ, zero, suc, ◌+◌, ◌<◌, Bool, true, false, not, ◌&&◌, ◌||◌, eqb, ◌⊎◌, List, [], ◌∷◌, map, length, get_or, drop, cond, find, Some, None, option_map, Option, sym, refl, ap, ◌∙◌, inl, inr, ⊎_elim, arith}
 use Rattle.std.specs.List.{AllByRecursion, list_all}
 use Rattle.std.proofs.lemmas.List.{at_drop_more}
 use Rattle.std.proofs.lemmas.Bool.{eqb-true, eq-eqb, and_parts, false≢true}
 use Rattle.model.specs.Strips.{State, Stands, names}
 use Rattle.model.specs.Rehearsals.{lacking}
-use Rattle.model.proofs.Rehearsals.{every_lacking, told_lacking}
 
 pub or_false : (a : Bool) → (a || false) ≡ a
 or_false true = refl
@@ -66,7 +65,15 @@ get_d_map f [] i d e lt = absurd (omega arith)
 get_d_map f (x ∷ l) zero d e lt = refl
 get_d_map f (x ∷ l) (suc i) d e lt = get_d_map f l i d e (omega arith)
 
--- nothing is lacking exactly if each fact stands
-pub lacking_decides : (s : State) (l : List ℕ) (o : Option ℕ) (r : Bool) → o ≡ lacking s l → is_some o ≡ not r → Decides r (AllByRecursion (Stands s) l)
-lacking_decides s l o true e h = ((λ _. ⊎_elim (λ every. every.0) (λ first. absurd (false≢true (sym h ∙ ap is_some (e ∙ first.2)))) (told_lacking s l)), λ _. refl)
-lacking_decides s l o false e h = ((λ z. absurd (false≢true z)), (λ every. absurd (false≢true (sym (ap is_some (e ∙ every_lacking s l every)) ∙ h))))
+found : (s : State) (l : List ℕ) → find (λ f. not (s f)) l ≡ lacking s l
+found s [] = refl
+found s (f ∷ l) = turn (s f) ∙ ap (λ o. cond (s f) o (Some f)) (found s l)
+  where
+    turn : (b : Bool) → cond (not b) (Some f) (find (λ g. not (s g)) l) ≡ cond b (find (λ g. not (s g)) l) (Some f)
+    turn true = refl
+    turn false = refl
+
+-- what is lacking is the first fact that does not stand
+pub find_lacking : (s : State) (l : List ℕ) (o : Option ℕ) → option_map (λ f. f) o ≡ find (λ f. not (s f)) l → o ≡ lacking s l
+find_lacking s l None e = e ∙ found s l
+find_lacking s l (Some f) e = e ∙ found s l

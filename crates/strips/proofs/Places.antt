@@ -4,7 +4,7 @@ use lib.Bits.{bit_or, bit_and, or_step, and_step, or_shr, and_shr}
 use Rattle.std.proofs.lemmas.Nat.{shr-shr, pow_pos}
 use Rattle.std.proofs.lemmas.Bool.{ne_eqb}
 use Rattle.std.proofs.lemmas.Bool.Decides.{nat_tests}
-use Rattle.strips.specs.Members.{bit}
+use Rattle.strips.specs.Standing.{bit}
 
 pub or_bit : (a b k : ℕ) → bit (bit_or a b) k ≡ (bit a k || bit b k)
 or_bit a b k =
