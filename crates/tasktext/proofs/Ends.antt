@@ -1,5 +1,5 @@
 -- How the reading of a text ends.
-use Rattle.std.proofs.Common.{ℕ, ◌+◌, ◌<◌, List, [], length, Ok, Err, sym, refl, ap, ◌∙◌, subst, inl, inr}
+use Rattle.std.proofs.Common.{◌≡◌, ℕ, ◌+◌, ◌<◌, List, [], length, Ok, Err, Result, MatchResult, IsErrAnd, sym, refl, ap, ◌∙◌, subst, inl, inr}
 use Rattle.std.specs.List.{flat_map}
 use Rattle.std.proofs.lemmas.List.{append-nil}
 use Rattle.textspec.specs.Hex.{line_of}
@@ -32,3 +32,11 @@ at_end text l e b h =
 -- where it states a task
 pub stated : (text : List ℕ) (l : Load) (t : Task) → Begins text (taken l) [] → Closing l (Ok t) → States text (problem t)
 stated text l t b h = record { lawful = h.0; is = b.is ∙ append-nil (flat_map line_of (taken l)) ∙ ap (flat_map line_of) h.1 }
+
+-- where the load is closed, and let go if that fails
+pub closed : {P : Load × LoadFault → LoadFault → Type 0} (text : List ℕ) (l : Load) (r : Result Task (Load × LoadFault)) (answer : Result Task LoadFault)
+    → ((e : Load × LoadFault) (f : LoadFault) → P e f → f ≡ e.1) → Begins text (taken l) [] → Closing l r → MatchResult r (λ t. answer ≡ Ok t) (λ e. IsErrAnd answer (P e))
+    → ReadingInto text answer
+closed text l (Ok t) answer same b h m = subst (ReadingInto text) (sym m) (stated text l t b h)
+closed text l (Err e) (Ok t) same b h m = absurd m
+closed text l (Err e) (Err f) same b h m = subst (λ x. ReadingInto text (Err x)) (sym (same e f m)) (at_end text l e b h)

@@ -4,3 +4,4 @@ pub mod Steps
 pub mod Pushes
 pub mod Flawless
 pub mod Ends
+pub mod Frames

@@ -1,7 +1,7 @@
 // The bytes that a line states.
 ghost use Rattle.std.specs.Prelude.{◌≡◌, ◌<◌, ◌≤◌, true, length, slice_index};
 ghost use Rattle.textspec.specs.Hex.{is_digit, value};
-ghost use Rattle.hexline.specs.Lines.{Sound, bytes_of};
+ghost use Rattle.hexline.specs.Lines.{bytes_of};
 
 use hexline::line::Line;
 
@@ -22,18 +22,15 @@ fn value(c: u8) -> u8
 
 // How many bytes the line states.
 pub(crate) fn len(line: &Line<'_>) -> usize
-    requires { Sound line.now }
     ensures size { result ≡ length (bytes_of line.now) }
     ensures some { 0 < result }
     ensures few { result ≤ 257 }
 {
-    let digits = line.digits();
-    digits.len() / 2
+    line.digits().len() / 2
 }
 
 pub(crate) fn byte(line: &Line<'_>, i: usize) -> u8
-    requires sound { Sound line.now }
-    requires within { i < length (bytes_of line.now) }
+    requires { i < length (bytes_of line.now) }
     ensures { result ≡ slice_index (bytes_of line.now) i }
 {
     let digits = line.digits();

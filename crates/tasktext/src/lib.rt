@@ -2,8 +2,8 @@
 #![tactic(auto)]
 
 mod bytes;
-mod check;
+mod frame;
 pub mod load;
-mod read;
 pub mod taking;
 pub mod text;
+mod whole;

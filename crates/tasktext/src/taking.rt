@@ -1,13 +1,16 @@
 // Beginning a load, taking lines, closing.
-ghost use Rattle.std.specs.Prelude.{◌≡◌, ◌+◌, ◌≤◌, [], ◌∷◌, ◌++◌, length, IfOk, if◌then◌else◌, None, nat_eq};
-ghost use Rattle.textspec.specs.Refusals.{refusal};
-ghost use Rattle.hexline.specs.Lines.{Sound, bytes_of, left};
+ghost use Rattle.std.specs.Prelude.{◌≡◌, ◌+◌, ◌≤◌, true, [], ◌∷◌, ◌++◌, length, IfOk, if◌then◌else◌, nat_eq};
+ghost use Rattle.textspec.specs.Frames.{head_frame, action_frame};
+ghost use Rattle.strips.specs.Actions.{action_of};
+ghost use Rattle.strips.specs.Fitting.{fits};
+ghost use Rattle.hexline.specs.Lines.{bytes_of, left};
 ghost use Rattle.tasktext.specs.Loads.{taken, Taking, Closing};
 
+use crate::frame::{Frame, Sizes};
 use crate::load::Load;
-use crate::read::{action, goal, head, next_frame, start};
-use hexline::line::{Line, Reader};
+use hexline::line::Reader;
 use std::alloc::{AllocError, Global};
+use strips::action::Action;
 use strips::list::FactList;
 use strips::task::Task;
 use textfault::fault::{LoadFault, Place};
@@ -48,21 +51,17 @@ impl Load {
         let n = self.actions.len() as u16;
         match self.due {
             Due::Head => 0,
-            Due::Action(_) => n + 1,
-            Due::Goal(_) => n + 1,
+            Due::Action(_) | Due::Goal(_) => n + 1,
             Due::Start(_) => n + 2,
             Due::End => n + 3,
             Due::Nothing => n + 4,
         }
     }
 
-    fn put_head(&mut self, line: &Line<'_>)
-        requires due { self.old.due ≡ Due.Head }
-        requires sound { Sound line.now }
-        requires accepted { refusal Due.Head (bytes_of line.now) ≡ None }
-        ensures { taken self.new ≡ taken self.old ++ bytes_of line.now ∷ [] }
+    fn put_head(&mut self, sizes: Sizes)
+        requires { self.old.due ≡ Due.Head }
+        ensures { taken self.new ≡ taken self.old ++ head_frame sizes.facts sizes.actions ∷ [] }
     {
-        let sizes = head(line);
         self.facts = sizes.facts;
         self.wanted = sizes.actions;
         self.goal = FactList::new();
@@ -70,56 +69,32 @@ impl Load {
         self.due = next_due(sizes.facts, sizes.actions as usize, self.actions.len());
     }
 
-    fn put_action(&mut self, line: &Line<'_>, facts: u8)
+    fn put_action(&mut self, facts: u8, action: Action)
         requires due { self.old.due ≡ Due.Action facts }
-        requires sound { Sound line.now }
-        requires accepted { refusal (Due.Action facts) (bytes_of line.now) ≡ None }
-        ensures { taken self.new ≡ taken self.old ++ bytes_of line.now ∷ [] }
+        requires fit { fits facts action ≡ true }
+        ensures { taken self.new ≡ taken self.old ++ action_frame (action_of action) ∷ [] }
     {
-        self.actions.push_reserved(action(line, facts));
+        self.actions.push_reserved(action);
         self.due = next_due(facts, self.wanted as usize, self.actions.len());
     }
 
-    fn put_goal(&mut self, line: &Line<'_>, facts: u8)
-        requires due { self.old.due ≡ Due.Goal facts }
-        requires sound { Sound line.now }
-        requires accepted { refusal (Due.Goal facts) (bytes_of line.now) ≡ None }
-        ensures { taken self.new ≡ taken self.old ++ bytes_of line.now ∷ [] }
-    {
-        self.goal = goal(line, facts);
-        self.due = Due::Start(facts);
-    }
-
-    fn put_start(&mut self, line: &Line<'_>, facts: u8)
-        requires due { self.old.due ≡ Due.Start facts }
-        requires sound { Sound line.now }
-        requires accepted { refusal (Due.Start facts) (bytes_of line.now) ≡ None }
-        ensures { taken self.new ≡ taken self.old ++ bytes_of line.now ∷ [] }
-    {
-        self.start = start(line, facts);
-        self.due = Due::End;
-    }
-
-    fn put_end(&mut self, line: &Line<'_>)
-        requires due { self.old.due ≡ Due.End }
-        requires accepted { refusal Due.End (bytes_of line.now) ≡ None }
-        ensures { taken self.new ≡ taken self.old ++ bytes_of line.now ∷ [] }
-    {
-        self.due = Due::Nothing;
-    }
-
     // Takes the frame that is due.
-    fn put(&mut self, line: &Line<'_>)
-        requires sound { Sound line.now }
-        requires accepted { refusal self.old.due (bytes_of line.now) ≡ None }
-        ensures { taken self.new ≡ taken self.old ++ bytes_of line.now ∷ [] }
+    fn put(&mut self, frame: Frame<'_>)
+        requires { frame.due ≡ self.old.due }
+        ensures { taken self.new ≡ taken self.old ++ bytes_of frame.entry.line ∷ [] }
     {
         match self.due {
-            Due::Head => self.put_head(line),
-            Due::Action(facts) => self.put_action(line, facts),
-            Due::Goal(facts) => self.put_goal(line, facts),
-            Due::Start(facts) => self.put_start(line, facts),
-            Due::End => self.put_end(line),
+            Due::Head => self.put_head(frame.sizes()),
+            Due::Action(facts) => self.put_action(facts, frame.action(facts)),
+            Due::Goal(facts) => {
+                self.goal = frame.facts(facts);
+                self.due = Due::Start(facts);
+            }
+            Due::Start(facts) => {
+                self.start = frame.facts(facts);
+                self.due = Due::End;
+            }
+            Due::End => self.due = Due::Nothing,
             Due::Nothing => {}
         }
     }
@@ -128,8 +103,8 @@ impl Load {
     pub fn take_line(&mut self, reader: &mut Reader<'_>) -> Result<(), LoadFault>
         ensures { Taking self.old (left reader.old) self.new (left reader.new) result }
     {
-        let line = next_frame(reader, self.accepted() + 1, self.due)?;
-        self.put(&line);
+        let frame = Frame::next(reader, self.accepted() + 1, self.due)?;
+        self.put(frame);
         Ok(())
     }
 
@@ -137,7 +112,6 @@ impl Load {
     pub fn close(self) -> Result<Task, (Load, LoadFault)>
         ensures { Closing self result }
     {
-        let number = self.accepted() + 1;
         match self.due {
             Due::Nothing => {
                 let Load {
@@ -148,18 +122,15 @@ impl Load {
                     goal,
                     start,
                 } = self;
-                match Task::new(facts, actions, goal, start) {
-                    Ok(task) => Ok(task),
-                    Err(_) => unreachable(),
-                }
+                Ok(Task::new(facts, actions, goal, start).unwrap())
             }
-            _ => Err((
-                self,
-                LoadFault::Early(Place {
-                    line: number,
+            _ => {
+                let place = Place {
+                    line: self.accepted() + 1,
                     at: 1,
-                }),
-            )),
+                };
+                Err((self, LoadFault::Early(place)))
+            }
         }
     }
 

@@ -16,18 +16,15 @@ fn read_into(mut load: Load, text: &[u8]) -> Result<Task, LoadFault>
 {
     let mut reader = Reader::new(text);
     while !reader.at_end() {
-        if let Err(e) = load.take_line(&mut reader) {
+        if let Err(fault) = load.take_line(&mut reader) {
             load.abandon();
-            return Err(e);
+            return Err(fault);
         }
     }
-    match load.close() {
-        Ok(task) => Ok(task),
-        Err((load, e)) => {
-            load.abandon();
-            Err(e)
-        }
-    }
+    load.close().map_err(|(load, fault)| {
+        load.abandon();
+        fault
+    })
 }
 
 // The task that the text states, or the text's first fault.
@@ -35,6 +32,5 @@ pub fn read_task(heap: Global, text: &[u8]) -> Result<Task, ReadFault>
     ensures { Reading text.now result }
 {
     let load = Load::begin(heap)?;
-    let task = read_into(load, text)?;
-    Ok(task)
+    Ok(read_into(load, text)?)
 }

@@ -12,7 +12,7 @@ bounds-digits-i c = omega (arith, length_bytes c.args.line.now.digits.now, ap le
 pub value-requires : goal.value-requires
 value-requires c =
     ap (λ ds. is_digit (get_or ds (2 * c.args.i) 0)) c.digits-digits.ensures
-    ∙ digit_at c.args.line.now.digits.now (2 * c.args.i) c.requires.sound.hex (omega (arith, length_bytes c.args.line.now.digits.now))
+    ∙ digit_at c.args.line.now.digits.now (2 * c.args.i) c.args.line.now.hex (omega (arith, length_bytes c.args.line.now.digits.now))
 
 pub overflow_mul-i-2 : goal.overflow_mul-i-2
 overflow_mul-i-2 c = omega (arith, length_bytes c.args.line.now.digits.now)
@@ -26,12 +26,12 @@ bounds-digits-i-2 c = omega (arith, length_bytes c.args.line.now.digits.now, ap 
 pub value-requires-2 : goal.value-requires-2
 value-requires-2 c =
     ap (λ ds. is_digit (get_or ds (2 * c.args.i + 1) 0)) c.digits-digits.ensures
-    ∙ digit_at c.args.line.now.digits.now (2 * c.args.i + 1) c.requires.sound.hex (omega (arith, length_bytes c.args.line.now.digits.now))
+    ∙ digit_at c.args.line.now.digits.now (2 * c.args.i + 1) c.args.line.now.hex (omega (arith, length_bytes c.args.line.now.digits.now))
 
 pub returns : goal.returns
 returns c =
     let i = c.args.i in
-    let h = bytes_at c.args.line.now.digits.now i c.requires.within in
+    let h = bytes_at c.args.line.now.digits.now i c.requires in
     let a = ap (λ ds. value (get_or ds (2 * i) 0)) c.digits-digits.ensures in
     let b = ap (λ ds. value (get_or ds (2 * i + 1) 0)) c.digits-digits.ensures in
     omega arith

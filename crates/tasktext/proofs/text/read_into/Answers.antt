@@ -1,4 +1,4 @@
-use Rattle.std.proofs.Common.{◌≡◌, ◌<◌, [], ◌++◌, length, sym, ap, ◌∙◌, subst, arith}
+use Rattle.std.proofs.Common.{◌≡◌, ◌<◌, [], ◌++◌, length, sym, ap, ◌∙◌, subst, arith, rules}
 use Rattle.std.specs.List.{flat_map}
 use Rattle.std.proofs.lemmas.List.{nil_from_length}
 use Rattle.std.proofs.lemmas.Bool.{eqb-true, eqb-false}
@@ -7,7 +7,7 @@ use Rattle.textspec.specs.Texts.{Begins, InTurn}
 use Rattle.hexline.specs.Lines.{left}
 use Rattle.tasktext.specs.Loads.{taken}
 use Rattle.tasktext.proofs.Steps.{begins_more, less_left}
-use Rattle.tasktext.proofs.Ends.{at_line, at_end, stated}
+use Rattle.tasktext.proofs.Ends.{at_line, closed}
 use Rattle.tasktext.proofs.text.read_into.Goals as goal
 
 pub loop-reader-init : goal.loop-reader-init
@@ -30,16 +30,10 @@ returns-in-Err c =
     let more : 0 < length xs = omega (arith, eqb-false (length xs) 0 (sym c.loop-reader-test.ensures)) in
     at_line c.args.text.now c.loop-reader.load _ xs _ _ c.loop-reader.invariant more c.in-Err.ensures
 
-pub returns-in-Ok : goal.returns-in-Ok
-returns-in-Ok c =
+pub returns : goal.returns
+returns c =
     let l = c.loop-reader.load in
     let xs = left c.loop-reader.reader in
     let end : xs ≡ [] = nil_from_length xs (eqb-true _ _ (sym c.loop-reader-test.ensures)) in
-    stated c.args.text.now l c.in-Ok.task (subst (Begins c.args.text.now (taken l)) end c.loop-reader.invariant) c.in-Ok.ensures
-
-pub returns-in-Err-close : goal.returns-in-Err-close
-returns-in-Err-close c =
-    let l = c.loop-reader.load in
-    let xs = left c.loop-reader.reader in
-    let end : xs ≡ [] = nil_from_length xs (eqb-true _ _ (sym c.loop-reader-test.ensures)) in
-    at_end c.args.text.now l _ (subst (Begins c.args.text.now (taken l)) end c.loop-reader.invariant) c.in-Err-close.ensures
+    closed c.args.text.now l c.close.result c.map_err.result (λ e f p. search rules)
+    (subst (Begins c.args.text.now (taken l)) end c.loop-reader.invariant) c.close.ensures c.map_err.ensures.cases

@@ -1,4 +1,5 @@
-use Rattle.std.proofs.Common.{arith}
+use Rattle.std.proofs.Common.{◌≡◌, ◌+◌, length, vec_len, ⊎_elim, arith}
+use Rattle.tasktext.specs.Loads.{taken}
 use Rattle.textspec.specs.declared.due.Due.TheVariants.{Action, Goal, Start, End, Nothing}
 use Rattle.tasktext.proofs.Meant.{number, small}
 use Rattle.tasktext.proofs.load.Load.accepted.Goals as goal
@@ -6,12 +7,8 @@ use Rattle.tasktext.proofs.load.Load.accepted.Goals as goal
 pub returns-in-Action : goal.returns-in-Action
 returns-in-Action c =
     let s = c.args.self.now in
-    record { count = omega (arith, number s (Action c.in-Action.field-0) c.in-Action.is, c.len-n.ensures); few = omega (arith, small s, c.len-n.ensures) }
-
-pub returns-in-Goal : goal.returns-in-Goal
-returns-in-Goal c =
-    let s = c.args.self.now in
-    record { count = omega (arith, number s (Goal c.in-Goal.field-0) c.in-Goal.is, c.len-n.ensures); few = omega (arith, small s, c.len-n.ensures) }
+    let n : length (taken s) ≡ vec_len s.actions + 1 = ⊎_elim (λ p. number s (Action p.0) p.1) (λ p. number s (Goal p.0) p.1) c.in-Action.is in
+    record { count = omega (arith, c.len-n.ensures); few = omega (arith, small s, c.len-n.ensures) }
 
 pub returns-in-Start : goal.returns-in-Start
 returns-in-Start c =

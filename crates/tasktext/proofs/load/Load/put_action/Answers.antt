@@ -1,7 +1,6 @@
-use Rattle.std.proofs.Common.{◌≡◌, ℕ, ◌<◌, ◌≤◌, true, cond, eqb, ltb, ◌∷◌, map, vec_items, vec_len, sym, ap, ◌∙◌, subst, arith}
+use Rattle.std.proofs.Common.{◌≡◌, ℕ, ◌<◌, ◌≤◌, true, cond, eqb, ltb, ◌∷◌, map, vec_items, vec_len, sym, refl, ap, ◌∙◌, subst, arith}
 use Rattle.std.proofs.lemmas.Bool.{ltb-true}
 use Rattle.std.proofs.lemmas.List.{map_push}
-use Rattle.hexline.specs.Lines.{bytes_of}
 use Rattle.textspec.specs.declared.due.Due.TheVariants.{Action, Goal}
 use Rattle.strips.specs.Lists.{listed}
 use Rattle.strips.specs.Actions.{action_of}
@@ -28,7 +27,7 @@ pub invariant_of-self : goal.invariant_of-self
 invariant_of-self c =
     let s = c.args.self.now in
     let f = s.facts in let w = s.wanted in let m = c.args.facts in
-    let a = c.action.result in
+    let a = c.args.action in
     let vs = c.push_reserved.new.self in
     let h = c.push_reserved.ensures.items in
     let l = c.push_reserved.ensures.len in
@@ -37,7 +36,7 @@ invariant_of-self c =
     let due = c.next_due-self.ensures ∙ ap (λ n. cond (eqb n w) (Goal m) (Action m)) c.len.ensures ∙ ap (λ k. cond (eqb (vec_len vs) w) (Goal k) (Action k)) q.0 in
     record {
       order = subst (λ d. in_order d f w (vec_len vs) ≡ true) (sym due) (order_next f w (vec_len vs) q.1 q.2 le);
-      fit = ap (all_fit f) h ∙ pass_push (fits f) (vec_items s.actions) a s.fit (ap (λ n. fits n a) (sym q.0) ∙ c.action.ensures.fit);
+      fit = ap (all_fit f) h ∙ pass_push (fits f) (vec_items s.actions) a s.fit (ap (λ n. fits n a) (sym q.0) ∙ c.requires.fit);
       goal_fit = s.goal_fit;
       start_fit = s.start_fit;
       room = omega (arith, c.push_reserved.ensures.capacity, s.room);
@@ -47,7 +46,7 @@ pub returns : goal.returns
 returns c =
     let s = c.args.self.now in
     let f = s.facts in let w = s.wanted in let m = c.args.facts in
-    let a = c.action.result in
+    let a = c.args.action in
     let g = listed s.goal in let t = listed s.start in
     let vs = c.push_reserved.new.self in
     let acts' = map action_of (vec_items vs) in
@@ -55,4 +54,4 @@ returns c =
     ∙ before_next (eqb c.len.result w) m f w acts' g t
     ∙ ap (λ xs. head_frame f w ∷ map action_frame (map action_of xs)) c.push_reserved.ensures.items
     ∙ ap (λ xs. head_frame f w ∷ map action_frame xs) (map_push action_of (vec_items s.actions) a)
-    ∙ step_action f w (acts_of s) g t m (action_of a) (bytes_of c.args.line.now) s.due c.requires.due c.action.ensures.states
+    ∙ step_action f w (acts_of s) g t m (action_of a) (action_frame (action_of a)) s.due c.requires.due refl

@@ -1,4 +1,4 @@
-use Rattle.std.proofs.Common.{◌+◌, ◌⊎◌, sym, refl, ap, ◌∙◌, subst}
+use Rattle.std.proofs.Common.{◌≡◌, ◌+◌, ◌⊎◌, None, refl, ap, ◌∙◌, subst}
 use Rattle.std.proofs.lemmas.Result.{err_from_is_err_and}
 use Rattle.textspec.specs.Hex.{FirstFault}
 use Rattle.textspec.specs.Refusals.{refusal}
@@ -8,12 +8,12 @@ use Rattle.textfault.specs.Shown.{frame_shown}
 use Rattle.tasktext.proofs.Meant.{due_is}
 use Rattle.tasktext.proofs.load.Load.take_line.Goals as goal
 
-pub returns-in_err-line : goal.returns-in_err-line
-returns-in_err-line c =
+pub returns-in_err-frame : goal.returns-in_err-frame
+returns-in_err-frame c =
     let p = err_from_is_err_and c.from_residual.result c.from_residual.ensures.1 in
-    let h = c.in_err-line.ensures in
+    let h = c.in_err-frame.ensures in
     let s = c.args.self.now in
-    let f = frame_shown c.in_err-line.field-0.0 in
+    let f = frame_shown c.in_err-frame.field-0.0 in
     let text = left c.args.reader.now in
     rw (p.1, p.2) (
       refl,
@@ -26,6 +26,7 @@ returns-in_err-line c =
 
 pub returns : goal.returns
 returns c =
-    let l = c.in_ok-line.ensures in
-    let b = bytes_of c.in_ok-line.line in
-    record { bytes = b; line = l.1; none = ap (λ d. refusal d b) (sym (due_is c.args.self.now)) ∙ l.2; moved = c.put.ensures }
+    let h = c.in_ok-frame.ensures in
+    let f = c.in_ok-frame.frame in
+    let b = bytes_of f.line in
+    record { bytes = b; line = h.1; none = subst (λ d. refusal d b ≡ None) (h.0 ∙ due_is c.args.self.now) f.accepted; moved = c.put.ensures }

@@ -4,14 +4,14 @@ use Rattle.hexline.specs.Lines.{bytes_of}
 use Rattle.strips.specs.Lists.{listed, Above}
 use Rattle.textspec.proofs.Hexes.{length_bytes}
 use Rattle.tasktext.proofs.Pushes.{joins}
-use Rattle.tasktext.proofs.read.list_of.Goals as goal
+use Rattle.tasktext.proofs.frame.Frame.list.Goals as goal
 
 pub overflow_add-from : goal.overflow_add-from
-overflow_add-from g c = omega (arith, c.requires.sound.few, length_bytes c.args.line.now.digits.now)
+overflow_add-from g c = omega (arith, c.args.self.now.line.few, length_bytes c.args.self.now.line.digits.now)
 
 pub loop-i-preserved : goal.loop-i-preserved
 loop-i-preserved g c =
-    let b = bytes_of c.args.line.now in
+    let b = bytes_of c.args.self.now.line in
     let i = c.loop-i.i in
     let from = c.args.from in
     let xs = drop from b in
