@@ -6,7 +6,7 @@ use Rattle.std.specs.Iterator.Runs.{Run, SomeRun, NoItemPasses, EndsAtFirstPassi
 use Rattle.std.specs.Range.{range_inclusive_start, range_inclusive_end, range_inclusive_exhausted}
 use Rattle.std.specs.declared.ops.RangeInclusive.{RangeInclusive}
 use Rattle.std.proofs.iter.runs.Sources.{nat_range_inclusive_steps, inclusive_listed}
-use denote.Param.Members.{Mut, Called}
+use denote.Param.Members.{Mut}
 use denote.Ref.{Bor}
 
 -- what holds of the item that there is

@@ -1,12 +1,12 @@
 -- What a task's invariants say of its problem. Assumes nothing.
-use Rattle.std.proofs.Common.{◌≡◌, ℕ, zero, suc, ◌+◌, ◌<◌, ◌≤◌, Bool, true, false, not, cond, ◌&&◌, eqb, ltb, List, [], ◌∷◌, map, length, get_or, take, Some, None, vec_items, Option, sym, refl, ap, ◌∙◌, subst, ⊎_elim, arith, lt-ltb, length-take}
+use Rattle.std.proofs.Common.{◌≡◌, ℕ, zero, suc, ◌+◌, ◌<◌, ◌≤◌, Bool, true, false, not, cond, ◌&&◌, eqb, ltb, List, [], ◌∷◌, length, get_or, take, Some, None, vec_items, Option, sym, refl, ap, ◌∙◌, subst, ⊎_elim, arith, lt-ltb, length-take}
 use mathlib.Core.Path.{fun_ext}
 use lib.ListN.{length-map}
 use Rattle.std.specs.List.{AllByRecursion, position_or_len}
 use Rattle.std.proofs.lemmas.List.{get_or_past}
 use Rattle.std.proofs.lemmas.Bool.Decides.{nat_tests}
 use Rattle.std.proofs.lemmas.Bool.{ltb-true, ltb-false, and_parts, cases_lt, eq-eqb, false≢true}
-use Rattle.model.specs.Strips.{Problem, Action as Means, Rising, Listed, Fits, Lawful, State as Facts, Stands, step, action, no_action, changed, these, names}
+use Rattle.model.specs.Strips.{Problem, Action as Means, Rising, Listed, Fits, Lawful, State as Facts, Stands, step, action, no_action, changed, these}
 use Rattle.std.specs.List.{slice_get}
 use Rattle.std.proofs.lemmas.Option.{slice_get-get_or, slice_get_within, get_or_from_slice_get}
 use Rattle.strips.specs.declared.list.FactList.{FactList}
@@ -18,9 +18,9 @@ use Rattle.strips.specs.Lists.{listed}
 use Rattle.strips.specs.Members.{Covers}
 use Rattle.strips.specs.Actions.{action_of}
 use Rattle.strips.specs.Fitting.{below, fits, all_fit}
-use Rattle.strips.specs.declared.fault.TaskFault.TheVariants.{NoFacts, TooManyActions, InAction, InGoal, InStart}
+use Rattle.strips.specs.declared.fault.TaskFault.TheVariants.{NoFacts, TooManyActions, InGoal, InStart}
 use Rattle.strips.specs.Tasks.{problem, first_unfit, in_lists, flaw}
-use Rattle.strips.proofs.Naming.{pass_every, every_map, every_like, get_d_map, named_stand, stand_named}
+use Rattle.strips.proofs.Naming.{pass_every, every_map, every_like, named_stand, stand_named}
 
 rising_take : (xs : List ℕ) (c : ℕ) → ((k : ℕ) → k + 1 < c → get_or xs k 0 < get_or xs (k + 1) 0) → Rising (take c xs)
 rising_take [] zero h = tt
@@ -65,15 +65,15 @@ lawful t = record {
   start = listed_fits t.start t.facts t.start_known;
 }
 
-no_some : {X : Type 0} (x : X) → Some x ≡ None → ⊥
-no_some x e = let z : ◌≡◌ {A = ℕ} 0 1 = ap (λ o. elim o [ Some y ↦ 0 | None ↦ 1 ]) e in omega arith
+none_of : {X : Type 0} {x : X} → Some x ≡ None → ⊥
+none_of e = cc
 
 -- the action of a number, where there is one
 pub known : (p : Problem) (k : ℕ) (a : Means) → slice_get p.actions k ≡ Some a → (k < length p.actions) × (action p k ≡ a)
 known p k a e = (slice_get_within _ k a e, get_or_from_slice_get _ k a no_action e)
 
 pub beyond : (p : Problem) (k : ℕ) → slice_get p.actions k ≡ None → length p.actions ≤ k
-beyond p k e = ⊎_elim (λ lt. absurd (no_some _ (sym (slice_get-get_or p.actions k no_action lt) ∙ e))) (λ le. le) (cases_lt k (length p.actions))
+beyond p k e = ⊎_elim (λ lt. absurd (none_of (sym (slice_get-get_or p.actions k no_action lt) ∙ e))) (λ le. le) (cases_lt k (length p.actions))
 
 -- the state beside a list covers it
 module _ (s : Facts) {n : ℕ} (m : FactSet n) where
@@ -95,10 +95,10 @@ step_past p k s le =
 
 cond_none : {X : Type 0} (b : Bool) (o : Option X) (x : X) → cond b o (Some x) ≡ None → (b ≡ true) × (o ≡ None)
 cond_none true o x h = (refl, h)
-cond_none false o x h = absurd (no_some x h)
+cond_none false o x h = absurd (none_of h)
 
 cond_some : {X : Type 0} (b : Bool) (o : Option X) (x : X) → cond b (Some x) o ≡ None → (b ≡ false) × (o ≡ None)
-cond_some true o x h = absurd (no_some x h)
+cond_some true o x h = absurd (none_of h)
 cond_some false o x h = (refl, h)
 
 none_unfit : (n k : ℕ) (l : List Action) → first_unfit n k l ≡ None → all_fit n l ≡ true
@@ -151,7 +151,7 @@ unflawed n actions goal start h =
     }
   where
     listed_known : (o : Option ℕ) → o ≡ first_unfit n 0 actions → in_lists n o goal start ≡ None → (first_unfit n 0 actions ≡ None) × (below n goal ≡ true) × (below n start ≡ true)
-    listed_known (Some k) e h = absurd (no_some (InAction k) h)
+    listed_known (Some k) e h = absurd (none_of h)
     listed_known None e h =
         let p = cond_none (below n goal) _ InGoal h in
         let q = cond_none (below n start) None InStart p.1 in

@@ -76,6 +76,7 @@ impl State {
     pub fn change(&mut self, deletes: &State, adds: &State)
         ensures { standing self.new ≡ changed (standing deletes.now) (standing adds.now) (standing self.old) }
     {
+        // By index, since three arrays are walked in step and one is written: a zip of zips is no plainer.
         for i in 0..4 {
             self.words[i] = self.words[i] & !deletes.words[i] | adds.words[i];
         }
@@ -115,7 +116,7 @@ impl Default for State {
     }
 }
 
-// By hand, since a derived == says nothing of facts: `same` does.
+// By hand, since a derived == would say nothing of facts, and `same` does.
 impl PartialEq for State {
     ghost use Rattle.std.specs.Prelude.{Decides, nat_eq};
     ghost use Rattle.std.specs.Cmp.Lexicographic.{pointwise};

@@ -1,4 +1,4 @@
-use Rattle.std.proofs.Common.{◌≡◌, Err, arith, ◌∙◌, take, rules, sym, subst}
+use Rattle.std.proofs.Common.{◌≡◌, Err, arith, rules, sym, subst}
 use Rattle.strips.specs.Lists.{listed, Taken}
 use Rattle.strips.proofs.Taking.{all_taken, refused}
 use Rattle.strips.proofs.list.FactListTryFromRefSliceU8.try_from.Goals as goal

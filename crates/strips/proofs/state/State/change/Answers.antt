@@ -1,5 +1,5 @@
-use Rattle.std.proofs.Common.{not, ◌&&◌, ◌||◌, get_or, refl, ap, ◌∙◌, arith, get_or-set_other, get_or-set_same, below_more, ◌-◌, ◌^◌, ◌<◌, ◌≤◌, ℕ, length-set}
-use lib.Bits.{bit_and, and_le_l, or_lt}
+use Rattle.std.proofs.Common.{not, ◌&&◌, ◌||◌, get_or, refl, ap, ◌∙◌, arith, get_or-set_other, get_or-set_same, below_more, ◌<◌, ◌≤◌, ℕ, length-set}
+use lib.Bits.{and_le_l, or_lt}
 use Rattle.strips.specs.Standing.{standing, bit}
 use Rattle.strips.proofs.Words.{change_word, change_words, small_set}
 use Rattle.strips.proofs.state.State.change.Goals as goal
@@ -13,7 +13,7 @@ invariant_of-self c =
     let d = c.args.deletes.now in let a = c.args.adds.now in
     record {
       four = simp length-set s.four;
-      small = small_set s.words i _ s.small (or_lt 64 (bit_and (get_or s.words i 0) (2 ^ 64 - 1 - get_or d.words i 0)) (get_or a.words i 0) (below (and_le_l (get_or s.words i 0) _) (s.small i)) (a.small i));
+      small = small_set s.words i _ s.small (or_lt 64 _ _ (below (and_le_l _ _) (s.small i)) (omega (arith, d.small i, a.small i)));
     }
 
 pub loop-i-init : goal.loop-i-init

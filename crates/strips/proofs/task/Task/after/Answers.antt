@@ -1,4 +1,4 @@
-use Rattle.std.proofs.Common.{sym, ap, ◌∙◌, arith}
+use Rattle.std.proofs.Common.{sym, ap, ◌∙◌}
 use mathlib.Core.Path.{fun_ext}
 use Rattle.model.specs.Strips.{step, changed, these, action}
 use Rattle.strips.specs.Tasks.{problem}
