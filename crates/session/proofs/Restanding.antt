@@ -1,5 +1,5 @@
 -- One fact comes or goes: only its equation is another. Assumes nothing.
-use Rattle.std.proofs.Common.{◌≡◌, ℕ, Bool, true, false, not, ◌&&◌, ◌||◌, eqb, List, vec_len, Option, sym, refl, ap, inl, inr, ⊎_elim}
+use Rattle.std.proofs.Common.{◌≡◌, ℕ, Bool, true, false, not, ◌&&◌, ◌||◌, eqb, List, Ok, Err, vec_len, Option, Result, sym, refl, ap, ◌∙◌, inl, inr, ⊎_elim}
 use native.Mathlib.Nat.{ℕ_set}
 use Rattle.std.proofs.lemmas.Bool.{cases_eq, eq-eqb, ne_eqb, true≢false, false≢true}
 use Rattle.figure.specs.declared.figure.Figure.{Figure}
@@ -10,7 +10,11 @@ use Rattle.session_theory.specs.Kept.{Kept, Stale}
 use Rattle.session_theory.proofs.Queues.{stale_none, stale_weaker}
 use Rattle.session_theory.proofs.Turns.{restood}
 use Rattle.strips.specs.Tasks.{problem}
+use Rattle.strips.specs.declared.state.State.{State as StateValue}
+use Rattle.strips.specs.Standing.{standing}
+use Rattle.session.specs.declared.fault.SessionFault.{SessionFault}
 use Rattle.session.specs.declared.session.Session.{Session}
+use Rattle.session.specs.Sessions.{Restanding, Entering, Striking}
 
 -- only the fact is stale
 pub one_stale : (rule : Rule) (p : Problem) (s u : State) (held right : List Figure) (pairs : List (Option Figure)) (f : ℕ) → ((r : ℕ) → (r ≡ f → ⊥) → u r ≡ s r) → Kept (equations rule p s) held right pairs → Stale (equations rule p u) held right pairs (λ r. eqb f r)
@@ -44,3 +48,15 @@ not_true false e = refl
 pub not_false : (b : Bool) → not b ≡ false → b ≡ true
 not_false true e = refl
 not_false false e = absurd (true≢false e)
+
+-- what enter and strike answer and leave, by what putting the other state in place does
+module _ {R Q : Type 0} (s t : Session R Q) (to : StateValue) (f : ℕ) (changed : Bool) where
+  pub entering : (r : Result Bool SessionFault) → changed ≡ not (standing s.state f) → standing to ≡ entered f (standing s.state) → Restanding s t to f changed r → Entering s t f r
+  entering (Ok true) told after (known, e, m) = (known, not_true _ (sym told ∙ e), record { base = m.base; figures = m.figures; facts = ap standing m.state ∙ after; settled = m.settled })
+  entering (Ok false) told after (known, e, same) = (known, not_false _ (sym told ∙ e), same)
+  entering (Err x) told after a = a
+
+  pub striking : (r : Result Bool SessionFault) → changed ≡ standing s.state f → standing to ≡ struck f (standing s.state) → Restanding s t to f changed r → Striking s t f r
+  striking (Ok true) told after (known, e, m) = (known, sym told ∙ e, record { base = m.base; figures = m.figures; facts = ap standing m.state ∙ after; settled = m.settled })
+  striking (Ok false) told after (known, e, same) = (known, sym told ∙ e, same)
+  striking (Err x) told after a = a

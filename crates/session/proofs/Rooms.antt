@@ -1,20 +1,28 @@
 -- Dockets kept ready. Assumes nothing.
-use Rattle.std.proofs.Common.{◌≡◌, ℕ, ◌+◌, ◌≤◌, List, [], ◌∷◌, ◌++◌, length, vec_len, Vec, sym, ap, ◌∙◌, subst, arith}
+use Rattle.std.proofs.Common.{◌≡◌, ℕ, ◌+◌, Bool, true, false, cond, List, [], ◌∷◌, ◌++◌, length, vec_len, Vec, sym, ap, ◌∙◌, subst, arith}
 use Rattle.std.specs.declared.alloc.Global.{Global}
-use Rattle.std.specs.List.{AllByRecursion}
+use Rattle.std.specs.List.{AllByRecursion, fold, count_by}
 use Rattle.std.proofs.lemmas.List.{length_push}
 use Rattle.std.proofs.ByRecursion.{All-push}
 use Rattle.settling.specs.declared.row.DocketRow.{DocketRow}
 use Rattle.session.specs.declared.call.Call.{Call}
 use Rattle.session.specs.declared.call.Call.TheVariants.{Enter, Strike, Settle, Figure, Goal}
-use Rattle.session.specs.Rooms.{weight, Stocked}
+use Rattle.session.specs.Rooms.{settles, Stocked}
 
-pub weight_low : (c : Call) → weight c ≤ 1
-weight_low (Enter f) = omega arith
-weight_low (Strike f) = omega arith
-weight_low (Settle n) = omega arith
-weight_low (Figure i) = omega arith
-weight_low Goal = omega arith
+abbrev pub is_settle : Call → Bool
+is_settle (Settle n) = true
+is_settle _ = false
+
+counted : (cs : List Call) (n : ℕ) → fold (λ m c. m + cond (is_settle c) 1 0) n cs ≡ n + settles cs
+counted [] n = omega arith
+counted (Enter f ∷ cs) n = omega (arith, counted cs (n + 0))
+counted (Strike f ∷ cs) n = omega (arith, counted cs (n + 0))
+counted (Settle k ∷ cs) n = omega (arith, counted cs (n + 1))
+counted (Figure i ∷ cs) n = omega (arith, counted cs (n + 0))
+counted (Goal ∷ cs) n = omega (arith, counted cs (n + 0))
+
+pub settles_counted : (cs : List Call) (n : ℕ) → n ≡ count_by is_settle cs → n ≡ settles cs
+settles_counted cs n e = omega (arith, e ∙ counted cs 0)
 
 pub stocked_none : (rows : ℕ) (l : List (Vec DocketRow Global)) → l ≡ [] → Stocked 0 rows l
 stocked_none rows l e = record { many = ap length e; long = subst (AllByRecursion (λ d. vec_len d ≡ rows)) (sym e) tt }

@@ -1,6 +1,7 @@
 -- What an opening answers. Assumes nothing.
 --
 --   ready      whether a session can be opened on a queue
+--   Indexed    what an opening begins with
 --   Opened     the session that it then is
 --   Refusing   a refused opening: why, and all given back
 use Rattle.std.specs.Prelude.{◌≡◌, Bool, true, false, ◌&&◌, List, length, replicate, Option, nat_le}
@@ -9,9 +10,9 @@ use Rattle.figure.specs.declared.figure.Figure.TheVariants.{None}
 use Rattle.model.specs.Strips.{Problem, items, these}
 use Rattle.strips.specs.declared.task.Task.{Task}
 use Rattle.strips.specs.Tasks.{problem}
+use Rattle.links.specs.declared.links.Links.{Links}
 use Rattle.links.specs.Indexes.{Linked}
 use Rattle.queue.specs.Queues.{vacant}
-use Rattle.settling.specs.declared.base.Base.{Base}
 use Rattle.session.specs.declared.fault.SessionFault.{SessionFault}
 use Rattle.session.specs.declared.fault.SessionFault.TheVariants.{Unknown, Unsettled, DocketShort, QueueUnfit, Memory}
 use Rattle.session.specs.declared.session.Session.{Session}
@@ -30,6 +31,10 @@ Why b DocketShort = ⊥
 Why b QueueUnfit = b ≡ false
 Why b Memory = b ≡ true
 
+-- the queue is ready, and the indexes are the problem's
+abbrev pub Indexed : Problem → List (Option Figure) → Links → Type 0
+Indexed p pairs links = (ready p pairs ≡ true) × Linked p links
+
 module _ {R Q : Type 0} (pairs : Q → List (Option Figure)) where
   -- the session is on this task and rule, unsettled, with the start facts standing and every figure none
   pub record Opened (task : Task) (rule : R) (queue : Q) (s : Session R Q) : Type 0 where
@@ -46,8 +51,3 @@ module _ {R Q : Type 0} (pairs : Q → List (Option Figure)) where
     pub same_task : e.task ≡ task
     pub same_rule : e.rule ≡ rule
     pub same_queue : e.queue ≡ queue
-
-  -- the indexes are made, and the queue is ready
-  pub record Beginning (base : Base R) (queue : Q) : Type 0 where
-    pub linked : Linked (problem base.task) base.links
-    pub was_ready : ready (problem base.task) (pairs queue) ≡ true

@@ -2,7 +2,7 @@
 --
 --   task_of, facts_of, figures_of   the problem, the standing facts and the held figures of a session
 --   Sound           what promises of figures rest on: opening ensures it and every call keeps it
---   Moved           other facts stand, and the session is unsettled
+--   Moved, Restanding   other facts stand, and the session is unsettled; what changing them answers and leaves
 --   Entering, Striking, Settles     what enter, strike and settle answer and leave
 --   Docketing       the figures and the rows of an accepted settle
 --   figure_answer, goal_answer      what figure and goal figure answer
@@ -16,7 +16,6 @@ use Rattle.model.specs.Docket.{Docket}
 use Rattle.strips.specs.declared.state.State.{State}
 use Rattle.strips.specs.Standing.{standing}
 use Rattle.strips.specs.Tasks.{problem}
-use Rattle.links.specs.Indexes.{Linked}
 use Rattle.settling.specs.declared.row.DocketRow.{DocketRow}
 use Rattle.settling.specs.Holding.{Keeping, row_of}
 use Rattle.session.specs.declared.fault.SessionFault.{SessionFault}
@@ -41,10 +40,9 @@ module _ {R Q : Type 0} (result : R → Rule) (sound : Q → Type 0) (pairs : Q 
   abbrev pub equations_in : Session R Q → Table → Table
   equations_in s = equations (result s.base.rule) (task_of s) (facts_of s)
 
-  -- the queue is sound, the indexes are the task's, the queue holds exactly the inconsistent items under their keys, and settled figures are the table's
+  -- the queue is sound, it holds exactly the inconsistent items under their keys, and settled figures are the table's
   pub record Sound (s : Session R Q) : Type 0 where
     pub queue : sound s.held.queue
-    pub linked : Linked (task_of s) s.base.links
     pub keeping : Keeping result pairs s.base s.state s.held
     pub solved : s.settled ≡ true → Solves (equations_in s) (table (figures_of s))
 
@@ -62,6 +60,12 @@ module _ {R Q : Type 0} where
     pub figures : t.held.figures ≡ s.held.figures
     pub facts : facts_of t ≡ to
     pub settled : t.settled ≡ false
+
+  -- what putting another state in place answers and leaves
+  abbrev pub Restanding : Session R Q → Session R Q → State → ℕ → Bool → Result Bool SessionFault → Type 0
+  Restanding s t to f changed (Ok true) = (f < (task_of s).facts) × (changed ≡ true) × Moved s t to
+  Restanding s t to f changed (Ok false) = (f < (task_of s).facts) × (changed ≡ false) × (t ≡ s)
+  Restanding s t to f changed (Err e) = ((task_of s).facts ≤ f) × (e ≡ Unknown) × (t ≡ s)
 
   -- what enter answers and leaves
   abbrev pub Entering : Session R Q → Session R Q → ℕ → Result Bool SessionFault → Type 0

@@ -4,7 +4,7 @@ use figure::figure::Figure;
 use settling::row::DocketRow;
 
 // What a session is asked.
-#[derive(Clone, Copy)]
+#[derive(Debug, Clone, Copy, PartialEq, Eq)]
 pub enum Call {
     Enter(u8),
     Strike(u8),
@@ -15,7 +15,7 @@ pub enum Call {
 }
 
 // What it answers.
-#[derive(Drop)]
+#[derive(Debug, PartialEq, Eq, Drop)]
 pub enum Answer {
     // Whether the state changed.
     Told(bool),

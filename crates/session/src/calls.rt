@@ -4,7 +4,7 @@ ghost use Rattle.model.specs.Strips.{items};
 ghost use Rattle.model.specs.Runs.Call.{enter as to_enter, strike as to_strike, settle as to_settle, figure as to_tell, goal as to_tell_goal};
 ghost use Rattle.strips.specs.Standing.{standing};
 ghost use Rattle.strips.specs.Tasks.{problem};
-ghost use Rattle.session.specs.Sessions.{Sound, Moved, Entering, Striking, Settles, Docketing, figure_answer, goal_answer};
+ghost use Rattle.session.specs.Sessions.{Sound, Restanding, Entering, Striking, Settles, Docketing, figure_answer, goal_answer};
 ghost use Rattle.session.specs.Laws.{told_of, shown_of, wrote_of, Goes};
 
 use crate::fault::SessionFault;
@@ -16,7 +16,7 @@ use settling::row::DocketRow;
 use strips::state::State;
 use strips::task::Task;
 
-// Two rows for each item.
+// Two rows for each item. By its parts, whose bounds show that the number fits.
 pub(crate) fn rows_needed(task: &Task) -> usize
     ensures { result ≡ 2 * items (problem task.now) }
 {
@@ -24,15 +24,22 @@ pub(crate) fn rows_needed(task: &Task) -> usize
 }
 
 impl<R: CostRule, Q: Queue<Key = Figure>> Session<R, Q> {
-    // Puts another state in place, which differs at one fact alone, and makes that fact right again.
-    fn restand(&mut self, state: State, fact: u8)
-        ensures moves { Moved self.old self.new state }
+    // Puts another state in place, if it is another at a known fact, and makes that fact right again.
+    fn restand(&mut self, state: State, fact: u8, changed: bool) -> Result<bool, SessionFault>
+        ensures answer { Restanding self.old self.new state fact changed result }
         ensures keeps { ((f : ℕ) → (f ≢ fact) → standing state f ≡ standing self.old.state f) → Sound R.CostRule.rule Q.Queue.sound Q.Queue.pairs self.old → Sound R.CostRule.rule Q.Queue.sound Q.Queue.pairs self.new }
     {
+        if fact >= self.base.task.facts() {
+            return Err(SessionFault::Unknown);
+        }
+        if !changed {
+            return Ok(false);
+        }
         self.state = state;
         self.settled = false;
         self.held
             .refresh(&self.base, &self.state, usize::from(fact));
+        Ok(true)
     }
 
     // Makes a fact stand; tells whether it had not stood. Only then is the session unsettled.
@@ -41,15 +48,9 @@ impl<R: CostRule, Q: Queue<Key = Figure>> Session<R, Q> {
         ensures keeps { Sound R.CostRule.rule Q.Queue.sound Q.Queue.pairs self.old → Sound R.CostRule.rule Q.Queue.sound Q.Queue.pairs self.new }
         ensures law { Goes R.CostRule.rule Q.Queue.sound Q.Queue.pairs self.old (to_enter fact) (told_of result) self.new }
     {
-        if fact >= self.base.task.facts() {
-            return Err(SessionFault::Unknown);
-        }
         let mut with = self.state;
-        if with.insert(fact) {
-            self.restand(with, fact);
-            return Ok(true);
-        }
-        Ok(false)
+        let changed = with.insert(fact);
+        self.restand(with, fact, changed)
     }
 
     // Makes a fact fall; tells whether it had stood. Only then is the session unsettled.
@@ -58,15 +59,9 @@ impl<R: CostRule, Q: Queue<Key = Figure>> Session<R, Q> {
         ensures keeps { Sound R.CostRule.rule Q.Queue.sound Q.Queue.pairs self.old → Sound R.CostRule.rule Q.Queue.sound Q.Queue.pairs self.new }
         ensures law { Goes R.CostRule.rule Q.Queue.sound Q.Queue.pairs self.old (to_strike fact) (told_of result) self.new }
     {
-        if fact >= self.base.task.facts() {
-            return Err(SessionFault::Unknown);
-        }
         let mut without = self.state;
-        if without.remove(fact) {
-            self.restand(without, fact);
-            return Ok(true);
-        }
-        Ok(false)
+        let changed = without.remove(fact);
+        self.restand(without, fact, changed)
     }
 
     // Moves the held figures to those of the facts that stand, writes a row for each change, and answers how many.

@@ -1,9 +1,11 @@
 // What a session refuses.
-ghost use Rattle.std.specs.Prelude.{◌≡◌};
-ghost use Rattle.session.specs.Refusals.{number_of};
+ghost use Rattle.std.specs.Prelude.{◌≡◌, Some};
+ghost use Rattle.session.specs.Refusals.{number_of, worded};
+
+use std::fmt;
 
 // Why a call is refused. None of them has values.
-#[derive(Clone, Copy)]
+#[derive(Debug, Clone, Copy, PartialEq, Eq)]
 pub enum SessionFault {
     // The task has no such fact or item.
     Unknown,
@@ -28,6 +30,20 @@ impl SessionFault {
             SessionFault::DocketShort => Some(10),
             SessionFault::QueueUnfit => Some(11),
             SessionFault::Memory => None,
+        }
+    }
+}
+
+impl fmt::Display for SessionFault {
+    ghost output = { λ fault. Some (worded fault) };
+
+    fn fmt<W: fmt::Write>(&self, f: &mut fmt::Formatter<W>) -> fmt::Result {
+        match self {
+            SessionFault::Unknown => write!(f, "refused 8: no such fact or item"),
+            SessionFault::Unsettled => write!(f, "refused 9: not settled"),
+            SessionFault::DocketShort => write!(f, "refused 10: the docket is short"),
+            SessionFault::QueueUnfit => write!(f, "refused 11: the queue does not fit"),
+            SessionFault::Memory => write!(f, "refused: no memory"),
         }
     }
 }

@@ -1,8 +1,8 @@
 // Opening and closing sessions.
-ghost use Rattle.std.specs.Prelude.{◌≡◌, IfOk, MatchResult};
+ghost use Rattle.std.specs.Prelude.{◌≡◌, true, IfOk, MatchResult};
 ghost use Rattle.model.specs.Runs.{fresh};
 ghost use Rattle.strips.specs.Tasks.{problem};
-ghost use Rattle.session.specs.Openings.{ready, Beginning, Opened, Refusing};
+ghost use Rattle.session.specs.Openings.{ready, Why, Indexed, Opened, Refusing};
 ghost use Rattle.session.specs.Laws.{Led};
 
 use crate::fault::SessionFault;
@@ -28,6 +28,20 @@ pub(crate) fn is_ready<Q: Queue<Key = Figure>>(task: &Task, queue: &Q) -> bool
     }
 }
 
+// The indexes of a session's task, or why there can be no session on this queue.
+fn indexes<Q: Queue<Key = Figure>>(
+    heap: Global,
+    task: &Task,
+    queue: &Q,
+) -> Result<Links, SessionFault>
+    ensures { MatchResult result (Indexed (problem task.now) (Q.Queue.pairs queue.now)) (Why (ready (problem task.now) (Q.Queue.pairs queue.now))) }
+{
+    if !is_ready(task, queue) {
+        return Err(SessionFault::QueueUnfit);
+    }
+    Links::of(heap, task).map_err(|_| SessionFault::Memory)
+}
+
 impl<R: CostRule, Q: Queue<Key = Figure>> Session<R, Q> {
     // Opens a session, unsettled, with the start facts standing and every figure none. Only this call needs memory.
     pub fn open(
@@ -39,18 +53,10 @@ impl<R: CostRule, Q: Queue<Key = Figure>> Session<R, Q> {
         ensures opens { MatchResult result (Opened Q.Queue.pairs task rule queue) (Refusing Q.Queue.pairs task rule queue) }
         ensures led { Q.Queue.sound queue → IfOk result (Led R.CostRule.rule Q.Queue.sound Q.Queue.pairs (fresh (problem task))) }
     {
-        if !is_ready(&task, &queue) {
-            return Err(Unopened {
-                fault: SessionFault::QueueUnfit,
-                task,
-                rule,
-                queue,
-            });
-        }
-        match Links::of(heap, &task) {
+        match indexes(heap, &task, &queue) {
             Ok(links) => Session::begin(heap, Base { task, rule, links }, queue),
-            Err(_) => Err(Unopened {
-                fault: SessionFault::Memory,
+            Err(fault) => Err(Unopened {
+                fault,
                 task,
                 rule,
                 queue,
@@ -60,7 +66,7 @@ impl<R: CostRule, Q: Queue<Key = Figure>> Session<R, Q> {
 
     // Opens a session on a task with its indexes.
     fn begin(heap: Global, base: Base<R>, queue: Q) -> Result<Session<R, Q>, Unopened<R, Q>>
-        requires { Beginning Q.Queue.pairs base queue }
+        requires { ready (problem base.task) (Q.Queue.pairs queue) ≡ true }
         ensures opens { MatchResult result (Opened Q.Queue.pairs base.task base.rule queue) (Refusing Q.Queue.pairs base.task base.rule queue) }
         ensures led { Q.Queue.sound queue → IfOk result (Led R.CostRule.rule Q.Queue.sound Q.Queue.pairs (fresh (problem base.task))) }
     {

@@ -8,6 +8,7 @@ use settling::held::HeldFigures;
 use strips::state::State;
 
 // A task with its rule, the facts that stand, the figures held, and whether they are those of the facts that stand.
+// That the figures are right is no part of the type: each call promises it of a session that such calls made, since it rests on what the queue kept.
 #[derive(Drop)]
 pub struct Session<R, Q> {
     pub(crate) base: Base<R>,

@@ -5,9 +5,9 @@ ghost use Rattle.model.specs.Runs.{fresh, ended, Rights};
 ghost use Rattle.model.specs.Runs.Call.{settle as to_settle};
 ghost use Rattle.strips.specs.Tasks.{problem};
 ghost use Rattle.session.specs.Sessions.{task_of, Sound};
-ghost use Rattle.session.specs.Laws.{told_of, shown_of, Led, Goes};
-ghost use Rattle.session.specs.Openings.{Refusing};
-ghost use Rattle.session.specs.Rooms.{weight, Stocked, Roomy};
+ghost use Rattle.session.specs.Laws.{Led, Goes};
+ghost use Rattle.session.specs.Openings.{ready, Why, Refusing};
+ghost use Rattle.session.specs.Rooms.{weight, Stocked, Roomy, Prepared};
 ghost use Rattle.session.specs.Works.{call_of, reply_of, On, Working};
 
 use crate::call::{Answer, Call};
@@ -24,37 +24,33 @@ use settling::row::DocketRow;
 use std::alloc::{AllocError, Global};
 use strips::task::Task;
 
-fn told(r: Result<bool, SessionFault>) -> Answer
-    ensures { reply_of result ≡ told_of r }
+// Room for the calls of a session on this task, or why there can be no session on this queue.
+fn room_for<Q: Queue<Key = Figure>>(
+    heap: Global,
+    task: &Task,
+    queue: &Q,
+    calls: &[Call],
+) -> Result<Room, SessionFault>
+    ensures { MatchResult result (Prepared (problem task.now) (Q.Queue.pairs queue.now) calls.now) (Why (ready (problem task.now) (Q.Queue.pairs queue.now))) }
 {
-    match r {
-        Ok(changed) => Answer::Told(changed),
-        Err(fault) => Answer::Refused(fault),
+    if !is_ready(task, queue) {
+        return Err(SessionFault::QueueUnfit);
     }
-}
-
-fn shown(r: Result<Figure, SessionFault>) -> Answer
-    ensures { reply_of result ≡ shown_of r }
-{
-    match r {
-        Ok(figure) => Answer::Is(figure),
-        Err(fault) => Answer::Refused(fault),
-    }
+    reserve(heap, rows_needed(task), calls).map_err(|_| SessionFault::Memory)
 }
 
 impl<R: CostRule, Q: Queue<Key = Figure>> Session<R, Q> {
     // Settles as if on so many rows; of the docket no more than two rows for each item are ever written.
-    fn settle_on(&mut self, docket: Vec<DocketRow>, rows: usize) -> Answer
+    fn settle_on(&mut self, mut docket: Vec<DocketRow>, rows: usize) -> Answer
         ensures base { self.new.base ≡ self.old.base }
         ensures keeps { Sound R.CostRule.rule Q.Queue.sound Q.Queue.pairs self.old → Sound R.CostRule.rule Q.Queue.sound Q.Queue.pairs self.new }
         ensures law { vec_len docket ≡ 2 * items (task_of self.old) → Goes R.CostRule.rule Q.Queue.sound Q.Queue.pairs self.old (to_settle rows) (reply_of result) self.new }
     {
-        let mut lent = docket;
-        lent.truncate(rows);
-        match self.settle(&mut lent) {
+        docket.truncate(rows);
+        match self.settle(&mut docket) {
             Ok(n) => {
-                lent.truncate(n);
-                Answer::Wrote(lent)
+                docket.truncate(n);
+                Answer::Wrote(docket)
             }
             Err(fault) => Answer::Refused(fault),
         }
@@ -67,14 +63,14 @@ impl<R: CostRule, Q: Queue<Key = Figure>> Session<R, Q> {
         ensures law { (n : ℕ) → Stocked (weight call + n) (2 * items (task_of self.old)) dockets.old.items → Goes R.CostRule.rule Q.Queue.sound Q.Queue.pairs self.old (call_of call) (reply_of result) self.new × Stocked n (2 * items (task_of self.old)) dockets.new.items }
     {
         match call {
-            Call::Enter(fact) => told(self.enter(fact)),
-            Call::Strike(fact) => told(self.strike(fact)),
+            Call::Enter(fact) => self.enter(fact).map_or_else(Answer::Refused, Answer::Told),
+            Call::Strike(fact) => self.strike(fact).map_or_else(Answer::Refused, Answer::Told),
             Call::Settle(rows) => match dockets.pop() {
                 Some(docket) => self.settle_on(docket, rows),
                 None => Answer::Refused(SessionFault::DocketShort),
             },
-            Call::Figure(item) => shown(self.figure(item)),
-            Call::Goal => shown(self.goal_figure()),
+            Call::Figure(item) => self.figure(item).map_or_else(Answer::Refused, Answer::Is),
+            Call::Goal => self.goal_figure().map_or_else(Answer::Refused, Answer::Is),
         }
     }
 
@@ -118,29 +114,19 @@ impl<R: CostRule, Q: Queue<Key = Figure>> Session<R, Q> {
         ensures law { Q.Queue.sound queue → IfOk result (λ w. Rights (problem task) (R.CostRule.rule rule) (fresh (problem task)) (map call_of calls.now) (map reply_of w.1.items)) }
         ensures led { Q.Queue.sound queue → IfOk result (λ w. Led R.CostRule.rule Q.Queue.sound Q.Queue.pairs (ended (problem task) (fresh (problem task)) (map call_of calls.now)) w.0) }
     {
-        if !is_ready(&task, &queue) {
-            return Err(Unopened {
-                fault: SessionFault::QueueUnfit,
-                task,
-                rule,
-                queue,
-            });
-        }
-        match reserve(heap, rows_needed(&task), calls) {
-            Ok(room) => match Session::open(heap, task, rule, queue) {
-                Ok(session) => {
-                    let mut opened = session;
-                    let answers = opened.run(room, calls);
-                    Ok((opened, answers))
-                }
-                Err(refused) => Err(refused),
-            },
-            Err(_) => Err(Unopened {
-                fault: SessionFault::Memory,
-                task,
-                rule,
-                queue,
-            }),
-        }
+        let room = match room_for(heap, &task, &queue, calls) {
+            Ok(room) => room,
+            Err(fault) => {
+                return Err(Unopened {
+                    fault,
+                    task,
+                    rule,
+                    queue,
+                });
+            }
+        };
+        let mut session = Session::open(heap, task, rule, queue)?;
+        let answers = session.run(room, calls);
+        Ok((session, answers))
     }
 }

@@ -8,5 +8,5 @@ returns c =
     record {
       none_yet = a.items;
       places = omega (arith, a.capacity);
-      stocked = subst (λ n. Stocked n c.args.rows (vec_items c.in_ok-dockets.dockets)) c.dockets_for_all.ensures c.in_ok-dockets.ensures;
+      stocked = subst (λ n. Stocked n c.args.rows (vec_items c.in_ok-dockets.dockets)) c.dockets_for.ensures c.in_ok-dockets.ensures;
     }

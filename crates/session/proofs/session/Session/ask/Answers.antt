@@ -1,4 +1,4 @@
-use Rattle.std.proofs.Common.{◌≡◌, ℕ, ◌+◌, ◌*◌, length, vec_items, vec_len, sym, refl, subst, arith}
+use Rattle.std.proofs.Common.{◌≡◌, ℕ, ◌+◌, ◌*◌, length, vec_items, vec_len, sym, refl, subst, arith, rules}
 use Rattle.model.specs.Strips.{items}
 use Rattle.session.specs.declared.call.Call.{Call as CallValue}
 use Rattle.session.specs.declared.call.Call.TheVariants as call
@@ -20,8 +20,8 @@ returns-in-Enter g c =
       base = entering_base s t _ c.enter.result c.enter.ensures.answer;
       keeps = c.enter.ensures.keeps;
       law =
-          subst (λ (k : CallValue). (n : ℕ) → Stocked (weight k + n) rows ds → Goes g.R.CostRule.rule g.Q.Queue.sound g.Q.Queue.pairs s (call_of k) (reply_of c.told.result) t × Stocked n rows ds) (sym c.in-Enter.is)
-          (plain g.R.CostRule.rule g.Q.Queue.sound g.Q.Queue.pairs s t (call.Enter c.in-Enter.fact) c.told.result (told_of c.enter.result) rows ds refl c.told.ensures c.enter.ensures.law);
+          subst (λ (k : CallValue). (n : ℕ) → Stocked (weight k + n) rows ds → Goes g.R.CostRule.rule g.Q.Queue.sound g.Q.Queue.pairs s (call_of k) (reply_of c.map_or_else.result) t × Stocked n rows ds) (sym c.in-Enter.is)
+          (plain g.R.CostRule.rule g.Q.Queue.sound g.Q.Queue.pairs s t (call.Enter c.in-Enter.fact) c.map_or_else.result (told_of c.enter.result) rows ds refl (search rules) c.enter.ensures.law);
     }
 
 pub returns-in-Strike : goal.returns-in-Strike
@@ -34,8 +34,8 @@ returns-in-Strike g c =
       base = striking_base s t _ c.strike.result c.strike.ensures.answer;
       keeps = c.strike.ensures.keeps;
       law =
-          subst (λ (k : CallValue). (n : ℕ) → Stocked (weight k + n) rows ds → Goes g.R.CostRule.rule g.Q.Queue.sound g.Q.Queue.pairs s (call_of k) (reply_of c.told-in-Strike.result) t × Stocked n rows ds) (sym c.in-Strike.is)
-          (plain g.R.CostRule.rule g.Q.Queue.sound g.Q.Queue.pairs s t (call.Strike c.in-Strike.fact) c.told-in-Strike.result (told_of c.strike.result) rows ds refl c.told-in-Strike.ensures c.strike.ensures.law);
+          subst (λ (k : CallValue). (n : ℕ) → Stocked (weight k + n) rows ds → Goes g.R.CostRule.rule g.Q.Queue.sound g.Q.Queue.pairs s (call_of k) (reply_of c.map_or_else-in-Strike.result) t × Stocked n rows ds) (sym c.in-Strike.is)
+          (plain g.R.CostRule.rule g.Q.Queue.sound g.Q.Queue.pairs s t (call.Strike c.in-Strike.fact) c.map_or_else-in-Strike.result (told_of c.strike.result) rows ds refl (search rules) c.strike.ensures.law);
     }
 
 pub returns-in-Figure : goal.returns-in-Figure
@@ -48,8 +48,8 @@ returns-in-Figure g c =
       base = refl;
       keeps = λ sd. sd;
       law =
-          subst (λ (k : CallValue). (n : ℕ) → Stocked (weight k + n) rows ds → Goes g.R.CostRule.rule g.Q.Queue.sound g.Q.Queue.pairs s (call_of k) (reply_of c.shown.result) t × Stocked n rows ds) (sym c.in-Figure.is)
-          (plain g.R.CostRule.rule g.Q.Queue.sound g.Q.Queue.pairs s t (call.Figure c.in-Figure.item) c.shown.result (shown_of c.figure.result) rows ds refl c.shown.ensures c.figure.ensures.law);
+          subst (λ (k : CallValue). (n : ℕ) → Stocked (weight k + n) rows ds → Goes g.R.CostRule.rule g.Q.Queue.sound g.Q.Queue.pairs s (call_of k) (reply_of c.map_or_else-in-Figure.result) t × Stocked n rows ds) (sym c.in-Figure.is)
+          (plain g.R.CostRule.rule g.Q.Queue.sound g.Q.Queue.pairs s t (call.Figure c.in-Figure.item) c.map_or_else-in-Figure.result (shown_of c.figure.result) rows ds refl (search rules) c.figure.ensures.law);
     }
 
 pub returns-in-Goal : goal.returns-in-Goal
@@ -62,8 +62,8 @@ returns-in-Goal g c =
       base = refl;
       keeps = λ sd. sd;
       law =
-          subst (λ (k : CallValue). (n : ℕ) → Stocked (weight k + n) rows ds → Goes g.R.CostRule.rule g.Q.Queue.sound g.Q.Queue.pairs s (call_of k) (reply_of c.shown-in-Goal.result) t × Stocked n rows ds) (sym c.in-Goal.is)
-          (plain g.R.CostRule.rule g.Q.Queue.sound g.Q.Queue.pairs s t (call.Goal) c.shown-in-Goal.result (shown_of c.goal_figure.result) rows ds refl c.shown-in-Goal.ensures c.goal_figure.ensures.law);
+          subst (λ (k : CallValue). (n : ℕ) → Stocked (weight k + n) rows ds → Goes g.R.CostRule.rule g.Q.Queue.sound g.Q.Queue.pairs s (call_of k) (reply_of c.map_or_else-in-Goal.result) t × Stocked n rows ds) (sym c.in-Goal.is)
+          (plain g.R.CostRule.rule g.Q.Queue.sound g.Q.Queue.pairs s t (call.Goal) c.map_or_else-in-Goal.result (shown_of c.goal_figure.result) rows ds refl (search rules) c.goal_figure.ensures.law);
     }
 
 pub returns-in-Some : goal.returns-in-Some

@@ -24,14 +24,13 @@ returns-in-Ok g c =
     let p = problem c.args.base.task in
     let e = c.in-Ok.ensures in
     let pairs = g.Q.Queue.pairs c.args.queue in
-    let fit = both_true (vacant pairs) (leb (items p) (length pairs)) c.requires.was_ready in
+    let fit = both_true (vacant pairs) (leb (items p) (length pairs)) c.requires in
     record {
-      opens = record { was_ready = c.requires.was_ready; on_task = refl; by_rule = refl; facts = c.start_state-state.ensures; figures = e.held; settled = refl };
+      opens = record { was_ready = c.requires; on_task = refl; by_rule = refl; facts = c.start_state-state.ensures; figures = e.held; settled = refl };
       led = λ sd. record {
         sound = record {
           queue = e.keeps sd;
-          linked = c.requires.linked;
-          keeping = e.after c.requires.linked fit.0 (leb-true (items p) (length pairs) fit.1);
+          keeping = e.after fit.0 (leb-true (items p) (length pairs) fit.1);
           solved = λ h. absurd (false≢true h);
         };
         facts = c.start_state-state.ensures;
@@ -42,6 +41,6 @@ returns-in-Ok g c =
 
 pub returns-in-Err : goal.returns-in-Err
 returns-in-Err g c = record {
-  opens = record { why = c.requires.was_ready; same_task = refl; same_rule = refl; same_queue = c.in-Err.ensures.held };
+  opens = record { why = c.requires; same_task = refl; same_rule = refl; same_queue = c.in-Err.ensures.held };
   led = λ sd. tt;
 }

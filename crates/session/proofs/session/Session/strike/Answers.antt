@@ -1,34 +1,18 @@
-use Rattle.std.proofs.Common.{◌≡◌, true, false, Ok, Err, sym, refl, ap, ◌∙◌, arith}
+use Rattle.std.proofs.Common.{ap, ◌∙◌}
 use Rattle.strips.specs.Standing.{standing}
-use Rattle.session.specs.declared.fault.SessionFault.TheVariants.{Unknown}
 use Rattle.session.specs.Sessions.{Sound, Striking}
-use Rattle.session.proofs.Restanding.{struck_other}
+use Rattle.session.proofs.Restanding.{striking, struck_other}
 use Rattle.session.proofs.Passing.{strike_goes}
 use Rattle.session.proofs.session.Session.strike.Goals as goal
-
-pub returns-then-fact-facts : goal.returns-then-fact-facts
-returns-then-fact-facts g c =
-    let s = c.args.self.now in
-    let a : Striking s s c.args.fact (Err Unknown) = (omega (arith, c.if-fact-facts.true, c.facts.ensures.is), refl, refl) in
-    record { answer = a; keeps = λ sd. sd; law = strike_goes g.R.CostRule.rule g.Q.Queue.sound g.Q.Queue.pairs s s c.args.fact (λ sd. sd) (Err Unknown) a }
-
-pub returns-then-remove : goal.returns-then-remove
-returns-then-remove g c =
-    let s = c.args.self.now in
-    let t = c.restand.new.self in
-    let f = c.args.fact in
-    let m = c.restand.ensures.moves in
-    let after = c.remove.ensures.after in
-    let keeps : Sound g.R.CostRule.rule g.Q.Queue.sound g.Q.Queue.pairs s → Sound g.R.CostRule.rule g.Q.Queue.sound g.Q.Queue.pairs t =
-    c.restand.ensures.keeps (λ r o. ap (λ z. z r) after ∙ struck_other f (standing s.state) r o) in
-    let was : standing s.state f ≡ true = sym c.remove.ensures.told ∙ c.if-remove.true in
-    let a : Striking s t f (Ok true) =
-    (omega (arith, c.if-fact-facts.false, c.facts.ensures.is), was, record { base = m.base; figures = m.figures; facts = ap standing m.state ∙ after; settled = m.settled }) in
-    record { answer = a; keeps = keeps; law = strike_goes g.R.CostRule.rule g.Q.Queue.sound g.Q.Queue.pairs s t f keeps (Ok true) a }
 
 pub returns : goal.returns
 returns g c =
     let s = c.args.self.now in
-    let was : standing s.state c.args.fact ≡ false = sym c.remove.ensures.told ∙ c.if-remove.false in
-    let a : Striking s s c.args.fact (Ok false) = (omega (arith, c.if-fact-facts.false, c.facts.ensures.is), was, refl) in
-    record { answer = a; keeps = λ sd. sd; law = strike_goes g.R.CostRule.rule g.Q.Queue.sound g.Q.Queue.pairs s s c.args.fact (λ sd. sd) (Ok false) a }
+    let t = c.restand.new.self in
+    let f = c.args.fact in
+    let made = c.remove-changed.ensures in
+    let e = c.restand.ensures in
+    let keeps : Sound g.R.CostRule.rule g.Q.Queue.sound g.Q.Queue.pairs s → Sound g.R.CostRule.rule g.Q.Queue.sound g.Q.Queue.pairs t =
+    e.keeps (λ r o. ap (λ z. z r) made.after ∙ struck_other f (standing s.state) r o) in
+    let a : Striking s t f c.restand.result = striking s t c.remove-changed.new.self f c.remove-changed.result c.restand.result made.told made.after e.answer in
+    record { answer = a; keeps = keeps; law = strike_goes g.R.CostRule.rule g.Q.Queue.sound g.Q.Queue.pairs s t f keeps c.restand.result a }
