@@ -114,3 +114,18 @@ fn a_twin_states_the_same(rt: HostRuntime) -> Result<(), Fail> {
     assert!(rt; !task.same(&task_of(3, Vec::new(rt.alloc()), &[2], &[0])?));
     Ok(())
 }
+
+#[test]
+fn faults_are_told_in_words(rt: HostRuntime) -> Result<(), Fail> {
+    let told = ListFault::NotRising.to_string(rt.alloc())?;
+    assert_eq!(rt;
+        told.as_str(),
+        "refused 6: the fact is not above the list's last"
+    );
+    let told = TaskFault::InAction(3).to_string(rt.alloc())?;
+    assert_eq!(rt;
+        told.as_str(),
+        "refused 5: action 3 names a fact that the task lacks"
+    );
+    Ok(())
+}
