@@ -3,7 +3,7 @@ use Rattle.std.proofs.Common.{◌≡◌, ℕ, ◌+◌, ◌<◌, ◌≤◌, cond,
 use Rattle.std.specs.List.{slice_get}
 use Rattle.std.proofs.lemmas.List.{at_drop_more, at_drop_all}
 use Rattle.std.proofs.lemmas.Bool.{cases_lt, false≢true}
-use Rattle.model.specs.Strips.{Problem, Action, State, action, no_action, step, Within}
+use Rattle.model.specs.Strips.{Problem, Action, State, action, step, Within}
 use Rattle.model.specs.Rehearsals.{Verdict, plan, unknown, blocked, missing, lacking, unless, verdict_from, verdict, good, refused, reading}
 use Rattle.model.proofs.Rehearsals.{verdicts}
 use Rattle.strips.specs.Members.{FirstFrom}

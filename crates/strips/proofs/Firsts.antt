@@ -1,6 +1,7 @@
 -- The first number of a range that passes a test. Assumes nothing.
 use Rattle.std.proofs.Common.{◌≡◌, ℕ, ◌+◌, ◌-◌, ◌<◌, ◌≤◌, Bool, true, false, Option, Some, None, MatchOption, option_map, sym, refl, ap, ◌∙◌, subst, arith}
 use Rattle.std.specs.Prelude.{IfSome, IsSomeAnd, IsTrue}
+use Rattle.std.proofs.lemmas.Iterator.Adapters.{option_map_id}
 use Rattle.std.specs.Fn.{CalledAt}
 use Rattle.std.specs.Iterator.Runs.{Run, SomeRun, NoItemPasses, EndsAtFirstPassing, CallKeepsClosure, ItemsCountUp}
 use Rattle.std.specs.Range.{range_inclusive_start, range_inclusive_end, range_inclusive_exhausted}
@@ -11,12 +12,10 @@ use denote.Ref.{Bor}
 
 -- what holds of the item that there is
 item_has : (P : ℕ → Type 0) (o : Option ℕ) (v : ℕ) → option_map (λ y. y) o ≡ Some v → IfSome o P → P v
-item_has P None v e h = absurd (cc)
-item_has P (Some x) v e h = let same : x ≡ v = cc in subst P same h
+item_has P o v e h = subst (λ o. IfSome o P) (sym (option_map_id o) ∙ e) h
 
 item_and : (P : ℕ → Type 0) (o : Option ℕ) (v : ℕ) → option_map (λ y. y) o ≡ Some v → IsSomeAnd o P → P v
-item_and P None v e h = absurd (cc)
-item_and P (Some x) v e h = let same : x ≡ v = cc in subst P same h
+item_and P o v e h = subst (λ o. IsSomeAnd o P) (sym (option_map_id o) ∙ e) h
 
 module _ {F : Type 0} (g : Mut F (Bor ℕ × Unit {0}) Bool) (f : F) (test : ℕ → Bool) (tests : (x : ℕ) (b : Bool) (q : F) → CalledAt g f x b q → (q ≡ f) × (b ≡ test x)) where
   keeps : CallKeepsClosure g f

@@ -1,13 +1,10 @@
 -- Lists of facts as states, and tests over lists. Assumes nothing.
-use Rattle.std.proofs.Common.{◌≡◌, ℕ, Bool, true, false, not, ◌||◌, eqb, ◌⊎◌, List, [], ◌∷◌, map, cond, find, Some, None, option_map, Option, sym, refl, ap, ◌∙◌, inl, inr, ⊎_elim, arith}
+use Rattle.std.proofs.Common.{◌≡◌, ℕ, Bool, true, false, not, ◌||◌, eqb, ◌⊎◌, List, [], ◌∷◌, map, cond, find, Some, option_map, Option, sym, refl, ap, ◌∙◌, inl, inr, ⊎_elim, arith}
+use Rattle.std.proofs.lemmas.Iterator.Adapters.{option_map_id}
 use Rattle.std.specs.List.{AllByRecursion, list_all}
 use Rattle.std.proofs.lemmas.Bool.{eqb-true, eq-eqb, and_parts}
 use Rattle.model.specs.Strips.{State, Stands, names}
 use Rattle.model.specs.Rehearsals.{lacking}
-
-pub or_false : (a : Bool) → (a || false) ≡ a
-or_false true = refl
-or_false false = refl
 
 -- one more fact is moved from the list to the state
 pub or_move : (a b c : Bool) → (b || (a || c)) ≡ ((a || b) || c)
@@ -63,5 +60,4 @@ found s (f ∷ l) = turn (s f) ∙ ap (λ o. cond (s f) o (Some f)) (found s l)
 
 -- what is lacking is the first fact that does not stand
 pub find_lacking : (s : State) (l : List ℕ) (o : Option ℕ) → option_map (λ f. f) o ≡ find (λ f. not (s f)) l → o ≡ lacking s l
-find_lacking s l None e = e ∙ found s l
-find_lacking s l (Some f) e = e ∙ found s l
+find_lacking s l o e = sym (option_map_id o) ∙ e ∙ found s l

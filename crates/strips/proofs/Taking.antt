@@ -1,6 +1,6 @@
 -- Lists of facts made fact by fact. Assumes nothing.
 use Rattle.std.proofs.Common.{◌≡◌, ℕ, zero, suc, ◌+◌, ◌-◌, ◌<◌, ◌≤◌, List, [], ◌∷◌, length, get_or, take, Ok, Err, length-take, sym, ap, ◌∙◌, subst, subst₂, arith}
-use Rattle.std.proofs.lemmas.List.{length-take-le, get_or-take}
+use Rattle.std.proofs.lemmas.List.{take_all, length-take-le, get_or-take}
 use Rattle.model.specs.Strips.{Rising}
 use Rattle.strips.specs.declared.list.FactList.{FactList}
 use Rattle.strips.specs.declared.fault.ListFault.{ListFault}
@@ -17,16 +17,10 @@ rising_at (x ∷ y ∷ xs) (suc k) h lt =
     let e : suc k + 1 ≡ suc (k + 1) = omega arith in
     subst (λ n. get_or (y ∷ xs) k 0 < get_or (x ∷ y ∷ xs) n 0) (sym e) (rising_at (y ∷ xs) k h.1 (omega arith))
 
-take_all : (xs : List ℕ) (i : ℕ) → length xs ≤ i → take i xs ≡ xs
-take_all [] zero h = cc
-take_all [] (suc i) h = cc
-take_all (x ∷ xs) zero h = absurd (omega arith)
-take_all (x ∷ xs) (suc i) h = ap (λ l. x ∷ l) (take_all xs i (omega arith))
-
 -- every fact has joined
 pub all_taken : {n : ℕ} (l : FactList n) (facts : List ℕ) (i : ℕ) → length facts ≤ i → listed l ≡ take i facts → Taken facts (Ok l)
 all_taken {n} l facts i past e =
-    let same = e ∙ take_all facts i past in
+    let same = e ∙ take_all i facts past in
     (subst (λ xs. length xs ≤ n) same (listed_few l), subst Rising same (listed_rising l), same)
 
 -- the first that could not join

@@ -1,6 +1,7 @@
 -- States' words, place by place. Assumes nothing.
 use Rattle.std.proofs.Common.{◌≡◌, ℕ, ◌+◌, ◌-◌, ◌*◌, ◌/◌, ◌%◌, ◌^◌, ◌<◌, ◌≤◌, Bool, true, false, not, ◌&&◌, ◌||◌, eqb, ◌≢◌, List, length, get_or, set, sym, refl, ap, ◌∙◌, ⊎_elim, arith, get_or-set_other, get_or-set_same, zero, suc, [], ◌∷◌, Decides, Option, Some, None, MatchOption}
 use mathlib.Core.Path.{fun_ext}
+use Rattle.std.proofs.Math.Bool.{or_comm, and_comm}
 use native.Mathlib.Decide.{ℕ_discrete}
 use Rattle.std.specs.List.{list_all, zip}
 use Rattle.strips.specs.Members.{Covers, FirstFrom}
@@ -42,32 +43,20 @@ put_word ws f v P lt none h =
           ∙ ap (λ b. P b (inside ws g)) (sym (other_place f g n))
     ])
 
-or_swap : (a b : Bool) → (a || b) ≡ (b || a)
-or_swap true true = refl
-or_swap true false = refl
-or_swap false true = refl
-or_swap false false = refl
-
-and_swap : (a b : Bool) → (a && b) ≡ (b && a)
-and_swap true true = refl
-and_swap true false = refl
-and_swap false true = refl
-and_swap false false = refl
-
 module _ (ws : List ℕ) (f : ℕ) (lt : f / 64 < length ws) where
   -- the fact's bit is set
   pub insert_word : (v : ℕ) → v ≡ 2 ^ (f % 64) → inside (set ws (f / 64) (bit_or (get_or ws (f / 64) 0) v)) ≡ entered f (inside ws)
   insert_word v e =
       let w = get_or ws (f / 64) 0 in
       put_word ws f (bit_or w v) ◌||◌ lt (λ b. refl) (λ k l.
-      or_bit w v k ∙ or_swap (bit w k) (bit v k) ∙ ap (λ n. bit n k || bit w k) e ∙ ap (λ b. b || bit w k) (one_bit (f % 64) k))
+      or_bit w v k ∙ or_comm (bit w k) (bit v k) ∙ ap (λ n. bit n k || bit w k) e ∙ ap (λ b. b || bit w k) (one_bit (f % 64) k))
 
   -- the fact's bit is cleared
   pub remove_word : (v : ℕ) → v ≡ 2 ^ (f % 64) → v < 2 ^ 64 → inside (set ws (f / 64) (bit_and (get_or ws (f / 64) 0) (2 ^ 64 - 1 - v))) ≡ struck f (inside ws)
   remove_word v e small =
       let w = get_or ws (f / 64) 0 in
       put_word ws f (bit_and w (2 ^ 64 - 1 - v)) (λ a b. not a && b) lt (λ b. refl) (λ k l.
-      and_bit w (2 ^ 64 - 1 - v) k ∙ ap (λ b. bit w k && b) (not_bit v k l small) ∙ and_swap (bit w k) (not (bit v k))
+      and_bit w (2 ^ 64 - 1 - v) k ∙ ap (λ b. bit w k && b) (not_bit v k l small) ∙ and_comm (bit w k) (not (bit v k))
       ∙ ap (λ n. not (bit n k) && bit w k) e ∙ ap (λ b. not b && bit w k) (one_bit (f % 64) k))
 
 -- one word of a change

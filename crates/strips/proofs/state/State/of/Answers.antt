@@ -3,11 +3,12 @@ use mathlib.Core.Path.{fun_ext}
 use Rattle.std.proofs.lemmas.List.{at_drop_more, at_drop_all}
 use Rattle.model.specs.Strips.{names}
 use Rattle.strips.specs.Standing.{standing}
-use Rattle.strips.proofs.Naming.{or_false, or_move}
+use Rattle.std.proofs.Math.Bool.{or-false}
+use Rattle.strips.proofs.Naming.{or_move}
 use Rattle.strips.proofs.state.State.of.Goals as goal
 
 pub loop-fact-init : goal.loop-fact-init
-loop-fact-init c = λ g. ap (λ b. names c.args.list.now g || b) (ap (λ s. s g) c.new-state.ensures) ∙ or_false (names c.args.list.now g)
+loop-fact-init c = λ g. ap (λ b. names c.args.list.now g || b) (ap (λ s. s g) c.new-state.ensures) ∙ or-false (names c.args.list.now g)
 
 pub loop-fact-preserved : goal.loop-fact-preserved
 loop-fact-preserved c =
