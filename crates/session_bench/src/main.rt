@@ -18,15 +18,6 @@ use strips::task::Task;
 use tasktext::text::read_task;
 use ways::{Tally, Way, measure};
 
-fn way_of(word: &str) -> anyhow::Result<Way> {
-    match word {
-        "kept" => Ok(Way::Kept),
-        "fresh" => Ok(Way::Fresh),
-        "solve" => Ok(Way::Solve),
-        _ => Err(anyhow!("the ways are kept, fresh and solve")),
-    }
-}
-
 fn agree<R: CostRule + Copy + Drop>(
     rt: &HostRuntime,
     task: &Task,
@@ -50,7 +41,7 @@ fn asked(rt: &HostRuntime, task: &Task, words: &[String]) -> anyhow::Result<()> 
         let both = agree(rt, task, AdditiveRule)? && agree(rt, task, MaxRule)?;
         return Ok(println!(rt; "kept, fresh and solved figures agree over 50 changes: {both}")?);
     };
-    let way = way_of(way.as_str())?;
+    let way = way.as_str().parse::<Way>()?;
     let changes = changes.as_str().parse::<u32>()?;
     let flips = Flips::new(seed.as_str().parse::<u64>()?);
     if rule.as_str() == "max" {
@@ -64,10 +55,8 @@ fn run(rt: &HostRuntime) -> anyhow::Result<()> {
     let words: Vec<String> = env::args(rt)?.skip(1).collect(rt.alloc())?;
     let mut text = Vec::new(rt.alloc());
     rt.stdin().read_to_end(&mut text)?;
-    match read_task(rt.alloc(), text.as_slice()) {
-        Ok(task) => asked(rt, &task, words.as_slice()),
-        Err(_) => Err(anyhow!("the text is refused")),
-    }
+    let task = read_task(rt.alloc(), text.as_slice()).map_err(|_| anyhow!("the text is refused"))?;
+    asked(rt, &task, words.as_slice())
 }
 
 fn main(rt: HostRuntime) -> anyhow::Result<()> {

@@ -9,6 +9,7 @@ use session::session::Session;
 use settling::row::DocketRow;
 use solve::goal::goal_figure;
 use solve::table::solve;
+use std::str::FromStr;
 use std::time::{Duration, Instant};
 use strips::state::State;
 use strips::task::Task;
@@ -18,6 +19,19 @@ pub enum Way {
     Kept,
     Fresh,
     Solve,
+}
+
+impl FromStr for Way {
+    type Err = anyhow::Error;
+
+    fn from_str(word: &str) -> anyhow::Result<Way> {
+        match word {
+            "kept" => Ok(Way::Kept),
+            "fresh" => Ok(Way::Fresh),
+            "solve" => Ok(Way::Solve),
+            _ => Err(anyhow!("the ways are kept, fresh and solve")),
+        }
+    }
 }
 
 // How long it took, how many rows were written, and a sum over the goal figures.
@@ -38,21 +52,7 @@ fn mixed(sum: u32, goal: Figure) -> u32 {
 fn opened<R: CostRule + Drop>(rt: &HostRuntime, task: &Task, rule: R) -> anyhow::Result<Held<R>> {
     let own = task.twin(rt.alloc())?;
     let queue: HeapQueue<Figure> = HeapQueue::new(rt.alloc(), own.item_count())?;
-    match Session::open(rt.alloc(), own, rule, queue) {
-        Ok(session) => Ok(session),
-        Err(_) => Err(anyhow!("no memory for a session")),
-    }
-}
-
-fn blank_docket(rt: &HostRuntime, task: &Task) -> anyhow::Result<Vec<DocketRow>> {
-    let mut docket = Vec::new(rt.alloc());
-    let blank = DocketRow {
-        item: 0,
-        before: Figure::None,
-        after: Figure::None,
-    };
-    docket.resize(2 * (usize::from(task.facts()) + task.action_count()), blank)?;
-    Ok(docket)
+    Session::open(rt.alloc(), own, rule, queue).map_err(|_| anyhow!("no memory for a session"))
 }
 
 // Makes a fact stand if it does not, and else fall.
@@ -85,12 +85,11 @@ fn keep<R: CostRule>(
     session: &mut Held<R>,
     docket: &mut [DocketRow],
     changes: u32,
-    flips: Flips,
+    mut flips: Flips,
     tally: &mut Tally,
 ) {
-    let mut next = flips;
     for _ in 0..changes {
-        let fact = next.next(session.task());
+        let fact = flips.next(session.task());
         flip(session, fact);
         settle(session, docket, tally);
     }
@@ -112,13 +111,12 @@ fn open_each<R: CostRule + Copy + Drop>(
     rule: R,
     docket: &mut [DocketRow],
     changes: u32,
-    flips: Flips,
+    mut flips: Flips,
     tally: &mut Tally,
 ) -> anyhow::Result<()> {
     let mut state = task.start_state();
-    let mut next = flips;
     for _ in 0..changes {
-        flip_in(&mut state, next.next(task));
+        flip_in(&mut state, flips.next(task));
         let mut session = opened(rt, task, rule)?;
         follow(&mut session, &state);
         settle(&mut session, docket, tally);
@@ -132,13 +130,12 @@ fn solve_each<R: CostRule>(
     task: &Task,
     rule: &R,
     changes: u32,
-    flips: Flips,
+    mut flips: Flips,
     tally: &mut Tally,
 ) -> anyhow::Result<()> {
     let mut state = task.start_state();
-    let mut next = flips;
     for _ in 0..changes {
-        flip_in(&mut state, next.next(task));
+        flip_in(&mut state, flips.next(task));
         let figures = solve(rt.alloc(), task, &state, rule)?;
         tally.sum = mixed(tally.sum, goal_figure(task, rule, &figures));
     }
@@ -154,7 +151,8 @@ pub fn measure<R: CostRule + Copy + Drop>(
     changes: u32,
     flips: Flips,
 ) -> anyhow::Result<Tally> {
-    let mut docket = blank_docket(rt, task)?;
+    let rows = 2 * (usize::from(task.facts()) + task.action_count());
+    let mut docket = vec![in rt.alloc(); DocketRow::default(); rows]?;
     let mut session = opened(rt, task, rule)?;
     let _ = session.settle(&mut docket);
     let start = Instant::now(rt)?;

@@ -13,70 +13,61 @@ use settling::row::DocketRow;
 use std::alloc::Global;
 use std::process::Abort;
 use std::test::Fail;
-use strips::task::Task;
 
 // The session tells exactly the table, and half the result over the goal.
-fn compare<R: CostRule, Q: Queue<Key = Figure>>(
+fn compare<R: CostRule, Q: Queue<Key = Figure>, J: Fn(Cell, Cell) -> Cell>(
     rt: &impl Abort,
     session: &Session<R, Q>,
     table: &[Cell],
-    sums: bool,
-) -> Result<(), Fail> {
+    join: &J,
+) -> Result<(), Fail>
+    requires { J.IsAlwaysCallable join.now }
+{
     for (item, cell) in table.iter().enumerate() {
-        match session.figure(item) {
-            Ok(figure) => assert!(rt; figure.number() == *cell),
-            Err(_) => return Err(Fail::new("a figure that should be told")),
-        }
+        let Ok(figure) = session.figure(item) else {
+            return Err(Fail::new("a figure that should be told"));
+        };
+        assert!(rt; figure.number() == *cell);
     }
-    let goal = match over(table, session.task().goal(), sums) {
-        Some(number) => Some(number / 2),
-        None => None,
+    let goal = over(table, session.task().goal(), join).map(|number| number / 2);
+    let Ok(figure) = session.goal_figure() else {
+        return Err(Fail::new("a goal figure that should be told"));
     };
-    match session.goal_figure() {
-        Ok(figure) => {
-            assert!(rt; figure.number() == goal);
-            Ok(())
-        },
-        Err(_) => Err(Fail::new("a goal figure that should be told")),
-    }
+    assert!(rt; figure.number() == goal);
+    Ok(())
 }
 
 // Applied one by one to the earlier figures the rows give the new ones.
-fn apply(rt: &impl Abort, held: &mut [Cell], rows: &[DocketRow]) {
+fn apply(rt: &impl Abort, held: &mut [Cell], rows: &[DocketRow]) -> Result<(), Fail> {
     for row in rows {
-        assert!(rt; row.item < held.len());
-        if row.item < held.len() {
-            assert!(rt; held[row.item] == row.before.number());
-            assert!(rt; row.before.number() != row.after.number());
-            held[row.item] = row.after.number();
-        }
+        let Some(cell) = held.get_mut(row.item) else {
+            return Err(Fail::new("a row of no item"));
+        };
+        assert!(rt; *cell == row.before.number());
+        assert!(rt; row.before.number() != row.after.number());
+        *cell = row.after.number();
     }
+    Ok(())
 }
 
-fn drive<R: CostRule + Drop, Q: Queue<Key = Figure> + Drop>(
-    rt: &impl Abort,
+// The figures join over a list of facts as the rule makes one of them.
+fn drive<Q: Queue<Key = Figure> + Drop, R: CostRule + Drop, J: Fn(Cell, Cell) -> Cell, A: Abort>(
+    rt: &A,
     heap: Global,
-    task: Task,
+    capacity: usize,
     rule: R,
-    queue: Q,
-    sums: bool,
+    join: &J,
     seed: u32,
-) -> Result<(), Fail> {
+) -> Result<(), Fail>
+    requires { J.IsAlwaysCallable join.now }
+{
     let mut random = Random(seed);
-    let items = task.item_count();
-    let mut held: Vec<Cell> = Vec::new(heap);
-    held.resize(items, None)?;
-    let blank = DocketRow {
-        item: 0,
-        before: Figure::None,
-        after: Figure::None,
-    };
-    let mut docket: Vec<DocketRow> = Vec::new(heap);
-    docket.resize(80, blank)?;
-    let Ok(opened) = Session::open(heap, task, rule, queue) else {
+    let task = random_task(heap, seed)?;
+    let mut held: Vec<Cell> = vec![in heap; None; task.item_count()]?;
+    let mut docket = vec![in heap; DocketRow::default(); 80]?;
+    let Ok(mut session) = Session::open(heap, task, rule, Q::new(heap, capacity)?) else {
         return Err(Fail::new("a session that should open"));
     };
-    let mut session = opened;
     for _ in 0..60 {
         let fact = random.byte() % 17;
         let known = fact < 16;
@@ -90,12 +81,12 @@ fn drive<R: CostRule + Drop, Q: Queue<Key = Figure> + Drop>(
             let Ok(n) = session.settle(&mut docket) else {
                 return Err(Fail::new("a settle that should be accepted"));
             };
-            assert!(rt; n <= docket.len());
-            if n <= docket.len() {
-                apply(rt, &mut held, &docket[..n]);
-            }
-            let table = table_of(heap, session.task(), &session.state(), sums)?;
-            compare(rt, &session, &table, sums)?;
+            let Some(rows) = docket.get(..n) else {
+                return Err(Fail::new("more rows than the docket has"));
+            };
+            apply(rt, &mut held, rows)?;
+            let table = table_of(heap, session.task(), &session.state(), join)?;
+            compare(rt, &session, &table, join)?;
             assert!(rt; held == table);
         }
     }
@@ -103,30 +94,10 @@ fn drive<R: CostRule + Drop, Q: Queue<Key = Figure> + Drop>(
 }
 
 fn drive_all(rt: &impl Abort, heap: Global, seed: u32) -> Result<(), Fail> {
-    let a: TableQueue<Figure> = TableQueue::new(heap, 40)?;
-    drive(
-        rt,
-        heap,
-        random_task(heap, seed)?,
-        AdditiveRule,
-        a,
-        true,
-        seed,
-    )?;
-    let b: TableQueue<Figure> = TableQueue::new(heap, 40)?;
-    drive(rt, heap, random_task(heap, seed)?, MaxRule, b, false, seed)?;
-    let c: HeapQueue<Figure> = HeapQueue::new(heap, 40)?;
-    drive(
-        rt,
-        heap,
-        random_task(heap, seed)?,
-        AdditiveRule,
-        c,
-        true,
-        seed,
-    )?;
-    let d: HeapQueue<Figure> = HeapQueue::new(heap, 64)?;
-    drive(rt, heap, random_task(heap, seed)?, MaxRule, d, false, seed)
+    drive::<TableQueue<Figure>, _, _, _>(rt, heap, 40, AdditiveRule, &plus, seed)?;
+    drive::<TableQueue<Figure>, _, _, _>(rt, heap, 40, MaxRule, &larger, seed)?;
+    drive::<HeapQueue<Figure>, _, _, _>(rt, heap, 40, AdditiveRule, &plus, seed)?;
+    drive::<HeapQueue<Figure>, _, _, _>(rt, heap, 64, MaxRule, &larger, seed)
 }
 
 #[test]

@@ -5,6 +5,7 @@ use strips::action::Action;
 use strips::list::FactList;
 use strips::task::Task;
 
+// A fact that is not above the last is left out.
 pub fn list_of<const N: usize>(facts: &[u8]) -> FactList<N> {
     let mut list = FactList::new();
     for f in facts {
@@ -18,10 +19,8 @@ pub fn action_of(pre: &[u8], add: &[u8]) -> Action {
 }
 
 pub fn task_of(facts: u8, actions: Vec<Action>, goal: &[u8], start: &[u8]) -> Result<Task, Fail> {
-    match Task::new(facts, actions, list_of(goal), list_of(start)) {
-        Ok(task) => Ok(task),
-        Err(_) => Err(Fail::new("parts that should make a task")),
-    }
+    Task::new(facts, actions, list_of(goal), list_of(start))
+        .map_err(|_| Fail::new("parts that should make a task"))
 }
 
 // Actions 1 → 2, 2 → 1 and 0 → 1: the first two hold each other up.

@@ -14,52 +14,31 @@ fn capped(number: u32) -> Cell {
 }
 
 fn at(table: &[Cell], item: usize) -> Cell {
-    match table.get(item) {
-        Some(cell) => *cell,
-        None => None,
-    }
+    table.get(item).copied().flatten()
 }
 
 pub fn plus(left: Cell, right: Cell) -> Cell {
-    match left {
-        None => None,
-        Some(a) => match right {
-            None => None,
-            Some(b) => capped(a.saturating_add(b)),
-        },
-    }
+    capped(left?.saturating_add(right?))
 }
 
-fn larger(left: Cell, right: Cell) -> Cell {
-    match left {
-        None => None,
-        Some(a) => match right {
-            None => None,
-            Some(b) => Some(a.max(b)),
-        },
-    }
+pub fn larger(left: Cell, right: Cell) -> Cell {
+    Some(left?.max(right?))
 }
 
 fn smaller(left: Cell, right: Cell) -> Cell {
-    match left {
-        None => right,
-        Some(a) => match right {
-            None => Some(a),
-            Some(b) => Some(a.min(b)),
-        },
+    match (left, right) {
+        (Some(a), Some(b)) => Some(a.min(b)),
+        _ => left.or(right),
     }
 }
 
-// The result over a list of facts: the sum, or the largest.
-pub fn over(table: &[Cell], facts: &[u8], sums: bool) -> Cell {
+// The result over a list of facts, which are joined one by one.
+pub fn over<J: Fn(Cell, Cell) -> Cell>(table: &[Cell], facts: &[u8], join: &J) -> Cell
+    requires { J.IsAlwaysCallable join.now }
+{
     let mut all = Some(0);
     for f in facts {
-        let one = at(table, usize::from(*f));
-        all = if sums {
-            plus(all, one)
-        } else {
-            larger(all, one)
-        };
+        all = join(all, at(table, usize::from(*f)));
     }
     all
 }
@@ -71,41 +50,50 @@ fn fact_cell(task: &Task, state: &State, table: &[Cell], fact: u8) -> Cell {
     let facts = usize::from(task.facts());
     let mut best = None;
     for k in 0..task.action_count() {
-        if let Some(action) = task.action(k) {
-            for f in action.adds() {
-                if *f == fact {
-                    best = smaller(best, at(table, facts + k));
-                }
-            }
+        if task.action(k).is_some_and(|action| action.adds().contains(&fact)) {
+            best = smaller(best, at(table, facts + k));
         }
     }
     plus(best, Some(1))
 }
 
-fn action_cell(task: &Task, table: &[Cell], number: usize, sums: bool) -> Cell {
-    match task.action(number) {
-        Some(action) => plus(over(table, action.preconditions(), sums), Some(1)),
-        None => None,
-    }
+fn action_cell<J: Fn(Cell, Cell) -> Cell>(
+    task: &Task,
+    table: &[Cell],
+    number: usize,
+    join: &J,
+) -> Cell
+    requires { J.IsAlwaysCallable join.now }
+{
+    let action = task.action(number)?;
+    plus(over(table, action.preconditions(), join), Some(1))
 }
 
-fn sweep(task: &Task, state: &State, table: &mut [Cell], sums: bool) {
+fn sweep<J: Fn(Cell, Cell) -> Cell>(task: &Task, state: &State, table: &mut [Cell], join: &J)
+    requires { J.IsAlwaysCallable join.now }
+{
     let facts = usize::from(task.facts());
     for item in 0..table.len() {
         table[item] = if item < facts {
             fact_cell(task, state, table, item as u8)
         } else {
-            action_cell(task, table, item - facts, sums)
+            action_cell(task, table, item - facts, join)
         };
     }
 }
 
 // From none everywhere, as many sweeps as there are items.
-pub fn table_of(heap: Global, task: &Task, state: &State, sums: bool) -> Result<Vec<Cell>, Fail> {
-    let mut table = Vec::new(heap);
-    table.resize(task.item_count(), None)?;
+pub fn table_of<J: Fn(Cell, Cell) -> Cell>(
+    heap: Global,
+    task: &Task,
+    state: &State,
+    join: &J,
+) -> Result<Vec<Cell>, Fail>
+    requires { J.IsAlwaysCallable join.now }
+{
+    let mut table = vec![in heap; None; task.item_count()]?;
     for _ in 0..task.item_count() {
-        sweep(task, state, &mut table, sums);
+        sweep(task, state, &mut table, join);
     }
     Ok(table)
 }

@@ -8,26 +8,15 @@ use session::call::{Answer, Call};
 use session::session::Session;
 use std::test::Fail;
 
-// The number of a refused answer.
-fn refusal(answer: &Answer) -> Option<u8> {
-    match answer {
-        Answer::Refused(fault) => fault.number(),
-        _ => None,
-    }
-}
+// What is looked at of an answer: the number of its refusal, how many rows it has, the number that it tells.
+type Seen = (Option<u8>, Option<usize>, Option<u32>);
 
-// How many rows an answer has.
-fn rows(answer: &Answer) -> Option<usize> {
+fn seen(answer: &Answer) -> Seen {
     match answer {
-        Answer::Wrote(docket) => Some(docket.len()),
-        _ => None,
-    }
-}
-
-fn number(answer: &Answer) -> Option<u32> {
-    match answer {
-        Answer::Is(figure) => figure.number(),
-        _ => None,
+        Answer::Refused(fault) => (fault.number(), None, None),
+        Answer::Wrote(docket) => (None, Some(docket.len()), None),
+        Answer::Is(figure) => (None, None, figure.number()),
+        Answer::Told(_) => (None, None, None),
     }
 }
 
@@ -57,58 +46,22 @@ fn the_fed_circle(rt: HostRuntime) -> Result<(), Fail> {
     let (_session, answers) = worked;
     assert!(rt; answers.len() == 13);
     let wanted = [
-        Some(9),
-        Some(10),
-        None,
-        None,
-        None,
-        Some(9),
-        None,
-        Some(8),
-        None,
-        None,
-        Some(8),
-        None,
-        None,
+        (Some(9), None, None),
+        (Some(10), None, None),
+        (None, Some(6), None),
+        (None, None, Some(4)),
+        (None, None, None),
+        (Some(9), None, None),
+        (None, Some(6), None),
+        (Some(8), None, None),
+        (None, None, None),
+        (None, None, None),
+        (Some(8), None, None),
+        (None, Some(6), None),
+        (None, None, Some(2)),
     ];
-    for (answer, refused) in answers.iter().zip(wanted.iter()) {
-        assert!(rt; refusal(answer) == *refused);
-    }
-    let written = [
-        None,
-        None,
-        Some(6),
-        None,
-        None,
-        None,
-        Some(6),
-        None,
-        None,
-        None,
-        None,
-        Some(6),
-        None,
-    ];
-    for (answer, count) in answers.iter().zip(written.iter()) {
-        assert!(rt; rows(answer) == *count);
-    }
-    let numbers = [
-        None,
-        None,
-        None,
-        Some(4),
-        None,
-        None,
-        None,
-        None,
-        None,
-        None,
-        None,
-        None,
-        Some(2),
-    ];
-    for (answer, wish) in answers.iter().zip(numbers.iter()) {
-        assert!(rt; number(answer) == *wish);
+    for (answer, wish) in answers.iter().zip(wanted.iter()) {
+        assert!(rt; seen(answer) == *wish);
     }
     Ok(())
 }
@@ -130,13 +83,15 @@ fn another_way(rt: HostRuntime) -> Result<(), Fail> {
     };
     let (_session, answers) = worked;
     assert!(rt; answers.len() == 5);
-    let written = [Some(7), None, None, Some(4), None];
-    for (answer, count) in answers.iter().zip(written.iter()) {
-        assert!(rt; rows(answer) == *count);
-    }
-    let numbers = [None, Some(2), None, None, Some(4)];
-    for (answer, wish) in answers.iter().zip(numbers.iter()) {
-        assert!(rt; number(answer) == *wish);
+    let wanted = [
+        (None, Some(7), None),
+        (None, None, Some(2)),
+        (None, None, None),
+        (None, Some(4), None),
+        (None, None, Some(4)),
+    ];
+    for (answer, wish) in answers.iter().zip(wanted.iter()) {
+        assert!(rt; seen(answer) == *wish);
     }
     Ok(())
 }
