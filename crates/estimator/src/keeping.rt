@@ -1,6 +1,5 @@
 // What is kept of earlier asks.
-ghost use Rattle.std.specs.Prelude.{◌≡◌, ◌≤◌, length};
-
+use arrayvec::ArrayVec;
 use figure::figure::Figure;
 use strips::state::State;
 
@@ -11,12 +10,19 @@ pub struct Kept {
     pub figure: Figure,
 }
 
+impl Default for Kept {
+    // Nothing stands, and the figure is none.
+    fn default() -> Kept {
+        Kept {
+            state: State::new(),
+            figure: Figure::None,
+        }
+    }
+}
+
 // Has the tasks and the function of another estimator, and holds the last 16 different states asked, the latest first.
 #[derive(Drop)]
 pub struct Keeping<E> {
     pub(crate) inner: E,
-    pub(crate) slots: [Kept; 16],
-    pub(crate) count: usize,
-    ghost whole: { length slots ≡ 16 },
-    ghost few: { count ≤ 16 },
+    pub(crate) latest: ArrayVec<Kept, 16>,
 }

@@ -44,11 +44,7 @@ impl<P: Estimator, Q: Estimator> Estimator for Larger<P, Q> {
         record { number = omega (arith, a.number, b.number); low = omega (arith, a.low, b.low) } };
 
     fn fits(&self, task: &Task) -> bool {
-        if self.first.fits(task) {
-            self.second.fits(task)
-        } else {
-            false
-        }
+        self.first.fits(task) && self.second.fits(task)
     }
 
     fn estimate(&mut self, state: &State) -> Figure {
