@@ -1,4 +1,9 @@
 // What is kept of earlier asks.
+ghost use Rattle.std.specs.Prelude.{◌≡◌, []};
+ghost use Rattle.figure.specs.declared.figure.Figure.TheVariants.{None as Never};
+ghost use Rattle.model.specs.Strips.{these};
+ghost use Rattle.strips.specs.Standing.{standing};
+
 use arrayvec::ArrayVec;
 use figure::figure::Figure;
 use strips::state::State;
@@ -12,7 +17,9 @@ pub struct Kept {
 
 impl Default for Kept {
     // Nothing stands, and the figure is none.
-    fn default() -> Kept {
+    fn default() -> Kept
+        ensures { (standing result.state ≡ these []) × (result.figure ≡ Never) }
+    {
         Kept {
             state: State::new(),
             figure: Figure::None,
