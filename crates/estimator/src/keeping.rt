@@ -17,9 +17,9 @@ pub struct Kept {
 
 impl Default for Kept {
     // Nothing stands, and the figure is none.
-    fn default() -> Kept
-        ensures { (standing result.state ≡ these []) × (result.figure ≡ Never) }
-    {
+    ghost is_default = { λ kept. (standing kept.state ≡ these []) × (kept.figure ≡ Never) };
+
+    fn default() -> Kept {
         Kept {
             state: State::new(),
             figure: Figure::None,
