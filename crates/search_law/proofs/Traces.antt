@@ -12,6 +12,10 @@ pub depth_pos : (rows : List Row) (n i : ℕ) → Depth rows n i → 0 < i → 0
 depth_pos rows zero i d pos = absurd (omega (arith, d))
 depth_pos rows (suc n) i d pos = omega arith
 
+pub depth_on : (rows : List Row) (n i : ℕ) → Depth rows n i → 0 < n → 0 < i
+depth_on rows zero i d pos = absurd (omega (arith, pos))
+depth_on rows (suc n) i d pos = d.0
+
 pub depth_less : (rows : List Row) (n i : ℕ) → Depth rows n i → 0 < i → Depth rows (n - 1) (get_or rows i blank).from
 depth_less rows zero i d pos = absurd (omega (arith, d))
 depth_less rows (suc n) i d pos = let e : n ≡ suc n - 1 = omega arith in subst (λ m. Depth rows m (get_or rows i blank).from) e d.1
