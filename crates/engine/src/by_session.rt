@@ -37,8 +37,9 @@ pub fn work_and_search_by_session<Q: Queue<Key = Figure>, P: Queue<Key = Pair>>(
     ensures law { IfOk result (λ w. OwnLaw (problem task) max_rule (map call_of calls.now) (map reply_of w.answers.items) (standing start.now) (Q.Queue.sound queue) (P.Queue.sound frontier.old) (memory rows.old steps.old (P.Queue.pairs frontier.old)) (memory rows.new steps.new (P.Queue.pairs frontier.new)) w.outcome) }
     ensures halted { IfErr result (Halting Q.Queue.sound Q.Queue.pairs task queue (map call_of calls.now)) }
 {
-    let (session, answers) = Session::open_and_work(heap, task, MaxRule, queue, calls)
-        .map_err(Halted::Unopened)?;
+    let (session, answers) = Session::open_and_work(heap, task, MaxRule, queue, calls).map_err(
+        Halted::Unopened,
+    )?;
     let Ok(twin) = session.task().twin(heap) else {
         return Err(Halted::NoMemory(session, answers));
     };
