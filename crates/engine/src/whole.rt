@@ -45,15 +45,11 @@ pub fn work_and_search<R: CostRule, Q: Queue<Key = Figure>, E: Estimator, P: Que
     ensures estimator { OnOk result (Leaves E.Estimator.suits E.Estimator.value E.Estimator.agrees est.old est.new) }
     ensures untouched { OnErr result ((est.new ≡ est.old) × (frontier.new ≡ frontier.old) × (rows.new ≡ rows.old) × (steps.new ≡ steps.old)) }
 {
-    match Session::open_and_work(heap, task, rule, queue, calls) {
-        Ok((session, answers)) => {
-            let outcome = search(sought, start, est, frontier, rows, steps);
-            Ok(Worked {
-                session,
-                answers,
-                outcome,
-            })
-        }
-        Err(unopened) => Err(unopened),
-    }
+    let (session, answers) = Session::open_and_work(heap, task, rule, queue, calls)?;
+    let outcome = search(sought, start, est, frontier, rows, steps);
+    Ok(Worked {
+        session,
+        answers,
+        outcome,
+    })
 }
