@@ -2,11 +2,11 @@
 // Tells each answer, and each row of each docket, in words.
 #![tactic(auto)]
 
-mod asked;
+mod arguments;
 mod words;
 
 use anyhow::anyhow;
-use asked::{Asked, asked_for};
+use arguments::{Asked, asked_for};
 use choices::answering::answer;
 use choices::choice::QueueChoice;
 use std::env;

@@ -52,22 +52,22 @@ impl Form {
 
 // What the arguments ask for.
 #[derive(Clone, Copy)]
-enum Asked {
+enum Request {
     Help,
     Plan(Form),
 }
 
-fn asked(rt: &HostRuntime) -> anyhow::Result<Asked> {
+fn requested(rt: &HostRuntime) -> anyhow::Result<Request> {
     let mut args = env::args(rt)?.skip(1);
     let Some(first) = args.next() else {
-        return Ok(Asked::Plan(Form::Hex));
+        return Ok(Request::Plan(Form::Hex));
     };
     if args.next().is_some() {
         return Err(anyhow!("at most one argument: --words or --help"));
     }
     match first.as_str() {
-        "--words" => Ok(Asked::Plan(Form::Words)),
-        "--help" => Ok(Asked::Help),
+        "--words" => Ok(Request::Plan(Form::Words)),
+        "--help" => Ok(Request::Help),
         _ => Err(anyhow!(
             "the arguments known are --words and --help; the task text comes from standard input"
         )),
@@ -75,9 +75,9 @@ fn asked(rt: &HostRuntime) -> anyhow::Result<Asked> {
 }
 
 fn run(rt: &HostRuntime) -> anyhow::Result<()> {
-    let form = match asked(rt)? {
-        Asked::Help => return Ok(println!(rt; "{HELP}")?),
-        Asked::Plan(form) => form,
+    let form = match requested(rt)? {
+        Request::Help => return Ok(println!(rt; "{HELP}")?),
+        Request::Plan(form) => form,
     };
     match task_on_input(rt)? {
         Ok(task) => form.tell_plan(rt, &task),

@@ -4,3 +4,4 @@ pub mod Laws
 pub mod Openings
 pub mod Rooms
 pub mod Works
+pub mod Texts

@@ -2,6 +2,7 @@
 use crate::fault::SessionFault;
 use figure::figure::Figure;
 use settling::row::DocketRow;
+use std::fmt;
 
 // What a session is asked.
 #[derive(Debug, Clone, Copy, PartialEq, Eq)]
@@ -12,6 +13,23 @@ pub enum Call {
     Settle(usize),
     Figure(usize),
     Goal,
+}
+
+impl fmt::Display for Call {
+    ghost use Rattle.std.specs.Prelude.{Some};
+    ghost use Rattle.session.specs.Texts.{named};
+
+    ghost output = { λ call. Some (named call) };
+
+    fn fmt<W: fmt::Write>(&self, f: &mut fmt::Formatter<W>) -> fmt::Result {
+        match self {
+            Call::Enter(fact) => write!(f, "enter {fact}"),
+            Call::Strike(fact) => write!(f, "strike {fact}"),
+            Call::Settle(_) => write!(f, "settle"),
+            Call::Figure(item) => write!(f, "figure {item}"),
+            Call::Goal => write!(f, "goal figure"),
+        }
+    }
 }
 
 // What it answers.
