@@ -17,18 +17,18 @@ module _ {K : Type 0} where
 
   -- the key of the item in a slot, or None
   abbrev pub key_in : HeapQueue K → ℕ → Option K
-  key_in h slot = slot_key (vec_items h.keys) (vec_items h.slots.items) slot
+  key_in h slot = slot_key (vec_items h.keys) (vec_items h.slots) slot
 
   -- no child's key is below its parent's
   abbrev pub InOrder : (K → K → Bool) → HeapQueue K → Type 0
-  InOrder leq h = Ordered leq (vec_items h.keys) (vec_items h.slots.items) h.size
+  InOrder leq h = Ordered leq (vec_items h.keys) (vec_items h.slots) h.size
 
   -- the same, but the key in one slot may be below its parent's, above its children's, or either
   abbrev pub RisingAt : (K → K → Bool) → HeapQueue K → ℕ → Type 0
-  RisingAt leq h slot = Rising leq (vec_items h.keys) (vec_items h.slots.items) h.size slot
+  RisingAt leq h slot = Rising leq (vec_items h.keys) (vec_items h.slots) h.size slot
 
   abbrev pub SinkingAt : (K → K → Bool) → HeapQueue K → ℕ → Type 0
-  SinkingAt leq h slot = Sinking leq (vec_items h.keys) (vec_items h.slots.items) h.size slot
+  SinkingAt leq h slot = Sinking leq (vec_items h.keys) (vec_items h.slots) h.size slot
 
   abbrev pub LooseAt : (K → K → Bool) → HeapQueue K → ℕ → Type 0
-  LooseAt leq h slot = Unsettled leq (vec_items h.keys) (vec_items h.slots.items) h.size slot
+  LooseAt leq h slot = Unsettled leq (vec_items h.keys) (vec_items h.slots) h.size slot

@@ -1,26 +1,36 @@
 // The heap as a queue. All its memory is got when it is made.
-ghost use Rattle.std.specs.Prelude.{◌≡◌, ◌<◌, true, false, not, length, replicate, is_some, IfOk, Some, None, slice_set};
+ghost use Rattle.std.specs.Prelude.{◌≡◌, ℕ, ◌<◌, true, false, not, length, replicate, is_some, IfOk, Some, None, slice_index, slice_set};
 ghost use Rattle.queue.specs.Queues.{held, vacant, Front, Smallest};
 ghost use Rattle.heap.specs.Meaning.{pairs_of, InOrder};
 ghost use Rattle.std.proofs.Common.{rules, arith};
 
-use crate::slots::Slots;
+use crate::slots::exchange;
 pub use crate::store::HeapQueue;
 use queue::key::Key;
 use queue::queue::Queue;
 use queue::refusal::QueueRefusal;
 use std::alloc::{AllocError, Global};
 
+// The numbers below `count`, in order.
+fn numbers(heap: Global, count: usize) -> Result<Vec<usize>, AllocError>
+    ensures long { IfOk result (λ v. length v.items ≡ count) }
+    ensures own { IfOk result (λ v. (i : ℕ) → i < count → slice_index v.items i ≡ i) }
+{
+    (0..count).collect(heap)
+}
+
 impl<K: Key> HeapQueue<K> {
-    // A heap of no items.
+    // A heap of no items: each stands in the slot of its number.
     fn empty(heap: Global, capacity: usize) -> Result<HeapQueue<K>, AllocError>
         ensures { IfOk result (λ q. (pairs_of q ≡ replicate capacity None) × (q.size ≡ 0)) }
     {
         let keys = vec![in heap; None; capacity]?;
-        let slots = Slots::new(heap, capacity)?;
+        let slots = numbers(heap, capacity)?;
+        let places = numbers(heap, capacity)?;
         Ok(HeapQueue {
             keys,
             slots,
+            places,
             size: 0,
         })
     }
@@ -40,7 +50,7 @@ impl<K: Key> HeapQueue<K> {
         if self.size == 0 {
             return None;
         }
-        let item = self.slots.item(0);
+        let item = self.slots[0];
         let key = self.keys[item]?;
         Some((item, key))
     }
@@ -52,9 +62,9 @@ impl<K: Key> HeapQueue<K> {
         ensures after { pairs_of self.new ≡ slice_set (pairs_of self.old) item (Some key) }
         ensures order { InOrder K.Key.leq self.old → InOrder K.Key.leq self.new }
     {
-        let slot = self.slots.place(item);
+        let slot = self.places[item];
         let last = self.size;
-        self.slots.exchange(slot, last);
+        exchange(&mut self.slots, &mut self.places, slot, last);
         self.keys[item] = Some(key);
         self.size += 1;
         self.sift_up(last);
@@ -67,7 +77,7 @@ impl<K: Key> HeapQueue<K> {
         ensures after { pairs_of self.new ≡ slice_set (pairs_of self.old) item (Some key) }
         ensures order { InOrder K.Key.leq self.old → InOrder K.Key.leq self.new }
     {
-        let slot = self.slots.place(item);
+        let slot = self.places[item];
         self.keys[item] = Some(key);
         self.settle(slot);
     }
@@ -79,9 +89,9 @@ impl<K: Key> HeapQueue<K> {
         ensures after { pairs_of self.new ≡ slice_set (pairs_of self.old) item None }
         ensures order { InOrder K.Key.leq self.old → InOrder K.Key.leq self.new }
     {
-        let slot = self.slots.place(item);
+        let slot = self.places[item];
         let last = self.size - 1;
-        self.slots.exchange(slot, last);
+        exchange(&mut self.slots, &mut self.places, slot, last);
         self.keys[item] = None;
         self.size = last;
         if slot < last {
@@ -117,13 +127,10 @@ impl<K: Key> Queue for HeapQueue<K> {
     }
 
     fn put(&mut self, item: usize, key: K) -> Result<(), QueueRefusal> {
-        if item >= self.keys.len() {
-            return Err(QueueRefusal::Beyond);
-        }
-        if self.contains(item) {
-            self.rekey(item, key);
-        } else {
-            self.add(item, key);
+        match self.keys.get(item) {
+            Some(Some(_)) => self.rekey(item, key),
+            Some(None) => self.add(item, key),
+            None => return Err(QueueRefusal::Beyond),
         }
         Ok(())
     }

@@ -1,62 +1,61 @@
-// The slots of a heap: every item stands in one slot, and every slot holds one item.
-ghost use Rattle.std.specs.Prelude.{◌≡◌, ℕ, ◌<◌, length, IfOk, slice_index};
-ghost use Rattle.heap_theory.specs.Heaps.{Paired, Swapped};
+// The slots of a heap: exchanging two, and comparing the keys of what they hold.
+// Over lent slices, not methods of the heap, since a step that goes through the heap's vectors takes a fifth longer.
+ghost use Rattle.std.specs.Prelude.{◌≡◌, ℕ, ◌+◌, ◌*◌, ◌<◌, ◌≤◌, true, length, slice_index};
+ghost use Rattle.heap_theory.specs.Heaps.{Paired, Swapped, Child, slot_key, option_leq};
 
-use std::alloc::{AllocError, Global};
+use queue::key::Key;
 
-// Items by slot and slots by item, each the inverse of the other.
-#[derive(Drop)]
-pub struct Slots {
-    pub(crate) items: Vec<usize>,
-    pub(crate) places: Vec<usize>,
-    ghost paired: { Paired items.items places.items (length items.items) },
-}
-
-// The numbers below `count`, in order.
-fn numbers(heap: Global, count: usize) -> Result<Vec<usize>, AllocError>
-    ensures long { IfOk result (λ v. length v.items ≡ count) }
-    ensures own { IfOk result (λ v. (i : ℕ) → i < count → slice_index v.items i ≡ i) }
+// Exchanges what two slots hold.
+pub(crate) fn exchange(slots: &mut [usize], places: &mut [usize], a: usize, b: usize)
+    requires paired { Paired slots.old places.old (length slots.old) }
+    requires within { (a < length slots.old) × (b < length slots.old) }
+    ensures pairs { Paired slots.new places.new (length slots.old) }
+    ensures swaps { Swapped (λ i. slice_index slots.old i) (λ i. slice_index slots.new i) a b }
 {
-    (0..count).collect(heap)
+    let x = slots[a];
+    let y = slots[b];
+    slots[a] = y;
+    slots[b] = x;
+    places[y] = a;
+    places[x] = b;
 }
 
-impl Slots {
-    // Each item in the slot of its number.
-    pub(crate) fn new(heap: Global, count: usize) -> Result<Slots, AllocError>
-        ensures long { IfOk result (λ slots. length slots.items.items ≡ count) }
-        ensures own { IfOk result (λ slots. (i : ℕ) → i < count → slice_index slots.items.items i ≡ i) }
-    {
-        let items = numbers(heap, count)?;
-        let places = numbers(heap, count)?;
-        Ok(Slots { items, places })
-    }
+// Whether the first is at most the second, where no key is above every key.
+fn at_most_option<K: Key>(a: Option<K>, b: Option<K>) -> bool
+    ensures { result ≡ option_leq K.Key.leq a b }
+{
+    b.is_none_or(|y| a.is_some_and(|x| x.at_most(y)))
+}
 
-    // The item in a slot.
-    pub(crate) fn item(&self, slot: usize) -> usize
-        requires { slot < length self.now.items.items }
-        ensures value { result ≡ slice_index self.now.items.items slot }
-        ensures within { result < length self.now.items.items }
-    {
-        self.items[slot]
-    }
+// Whether the key in the first slot is at most that in the second.
+pub(crate) fn in_order<K: Key>(keys: &[Option<K>], slots: &[usize], a: usize, b: usize) -> bool
+    requires within { (a < length slots.now) × (b < length slots.now) }
+    requires items { (slice_index slots.now a < length keys.now) × (slice_index slots.now b < length keys.now) }
+    ensures { result ≡ option_leq K.Key.leq (slot_key keys.now slots.now a) (slot_key keys.now slots.now b) }
+{
+    at_most_option(keys[slots[a]], keys[slots[b]])
+}
 
-    // The slot of an item.
-    pub(crate) fn place(&self, item: usize) -> usize
-        requires { item < length self.now.items.items }
-        ensures value { result ≡ slice_index self.now.places.items item }
-        ensures within { result < length self.now.items.items }
-    {
-        self.places[item]
+// The child of a slot whose key is not above the other's.
+pub(crate) fn lesser_child<K: Key>(
+    keys: &[Option<K>],
+    slots: &[usize],
+    size: usize,
+    slot: usize,
+) -> usize
+    requires long { length slots.now ≡ length keys.now }
+    requires items { (i : ℕ) → i < length keys.now → slice_index slots.now i < length keys.now }
+    requires within { (2 * slot + 1 < size) × (size ≤ length keys.now) }
+    ensures child { Child slot result × (result < size) }
+    ensures least { (j : ℕ) → Child slot j → j < size → option_leq K.Key.leq (slot_key keys.now slots.now result) (slot_key keys.now slots.now j) ≡ true }
+{
+    let left = 2 * slot + 1;
+    if left == size - 1 {
+        return left;
     }
-
-    // Exchanges what two slots hold.
-    pub(crate) fn exchange(&mut self, a: usize, b: usize)
-        requires within { (a < length self.old.items.items) × (b < length self.old.items.items) }
-        ensures long { length self.new.items.items ≡ length self.old.items.items }
-        ensures swaps { Swapped (λ i. slice_index self.old.items.items i) (λ i. slice_index self.new.items.items i) a b }
-    {
-        self.items.swap(a, b);
-        self.places[self.items[a]] = a;
-        self.places[self.items[b]] = b;
+    if in_order(keys, slots, left, left + 1) {
+        left
+    } else {
+        left + 1
     }
 }

@@ -1,13 +1,19 @@
-use Rattle.std.proofs.Common.{get_or, subst}
-use Rattle.heap_theory.specs.Heaps.{Paired, Swapped}
+use Rattle.std.proofs.Common.{◌+◌, Some, length, set, sym, ◌∙◌, subst}
+use Rattle.std.proofs.lemmas.List.{with_items_is}
+use Rattle.heap_theory.specs.Heaps.{Paired, Rising}
 use Rattle.heap_theory.proofs.Edits.{added}
-use Rattle.heap.proofs.Stores.{shape_of}
+use Rattle.heap.proofs.Stores.{shape_of, place_read, place_swapped}
 use Rattle.heap.proofs.store.HeapQueue.add.Goals as goal
 
 pub returns-clause-order : goal.returns-clause-order
 returns-clause-order g c ok =
     let old = c.args.self.now in
-    let new = c.exchange.new.self in
-    let paired = subst (Paired new.items.items new.places.items) c.exchange.ensures.long new.paired in
-    let swaps = subst (λ slot. Swapped (λ i. get_or old.slots.items.items i 0) (λ i. get_or new.items.items i 0) slot old.size) c.place-slot.ensures.value c.exchange.ensures.swaps in
-    c.sift_up.ensures.order ((added (shape_of old) g.K.Key.leq c.args.item c.args.key new.items.items new.places.items c.requires.within c.requires.free paired swaps).nearly ok)
+    let item = c.args.item in
+    let leq = g.K.Key.leq in
+    let slots = c.exchange.new.slots in
+    let places = c.exchange.new.places in
+    let was = c.deref_mut.ensures.value in
+    let paired = subst (λ l. Paired slots places (length l)) was c.exchange.ensures.pairs in
+    let swaps = place_swapped old item slots was (place_read old c.requires.within c.index-slot.ensures) c.exchange.ensures.swaps in
+    let rising = (added (shape_of old) leq item c.args.key slots places c.requires.within c.requires.free paired swaps).nearly ok in
+    c.sift_up.ensures.order (subst (λ l. Rising leq (set old.keys.items item (Some c.args.key)) l (old.size + 1) old.size) (sym (with_items_is old.slots slots (c.exchange.auto.slots ∙ c.deref_mut.ensures.len))) rising)

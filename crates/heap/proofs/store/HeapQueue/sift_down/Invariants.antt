@@ -1,14 +1,15 @@
-use Rattle.std.proofs.Common.{◌≡◌, ◌-◌, ◌<◌}
-use Rattle.heap.specs.Meaning.{pairs_of, SinkingAt}
+use Rattle.std.proofs.Common.{◌-◌, ◌<◌, length}
+use Rattle.heap_theory.specs.Heaps.{Paired, Held, Sinking}
+use Rattle.heap.specs.Meaning.{SinkingAt}
 use Rattle.heap.proofs.store.HeapQueue.sift_down.Given as goal
 
 abbrev pub invariant-loop-slot : goal.invariant-loop-slot
 invariant-loop-slot g l = record {
-  within : l.slot < l.self.size;
-  pairs : pairs_of l.self ≡ pairs_of l.initial.self;
-  size : l.self.size ≡ l.initial.self.size;
-  order : SinkingAt g.K.Key.leq l.initial.self l.start → SinkingAt g.K.Key.leq l.self l.slot;
+  within : l.slot < l.size;
+  paired : Paired l.slots l.places (length l.keys);
+  held : Held l.keys l.slots l.size;
+  order : SinkingAt g.K.Key.leq l.fn.self l.start → Sinking g.K.Key.leq l.keys l.slots l.size l.slot;
 }
 
 abbrev pub decreases-loop-slot : goal.decreases-loop-slot
-decreases-loop-slot g l = l.self.size - l.slot
+decreases-loop-slot g l = l.size - l.slot
