@@ -65,10 +65,17 @@ impl<'a> Whole<'a> {
     {
         let b = byte(&self.line, k);
         match self.due {
-            Due::Head => k == 1 && b == 0
-                || k == 2 && b as u16 * 256 + byte(&self.line, 3) as u16 > 512,
-            Due::Action(facts) => 1 <= k && k <= 3 && b > 16 || 4 <= k && b >= facts,
-            Due::Goal(facts) | Due::Start(facts) => 2 <= k && b >= facts,
+            Due::Head => match k {
+                1 => b == 0,
+                2 => b as u16 * 256 + byte(&self.line, 3) as u16 > 512,
+                _ => false,
+            },
+            Due::Action(facts) => match k {
+                0 => false,
+                1..=3 => b > 16,
+                _ => b >= facts,
+            },
+            Due::Goal(facts) | Due::Start(facts) => k >= 2 && b >= facts,
             Due::End | Due::Nothing => false,
         }
     }

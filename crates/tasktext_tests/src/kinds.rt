@@ -5,12 +5,12 @@ use std::test::Fail;
 #[test]
 fn another_kind_than_the_one_due(rt: HostRuntime) -> Result<(), Fail> {
     let heap = rt.alloc();
-    for due in 1..6u16 {
-        for kind in 1..6u16 {
+    // A line of each kind, by its number.
+    let kinds = [(1, HEAD), (2, FIRST), (4, GOAL), (5, START), (6, END)];
+    for (due, _) in kinds {
+        for (kind, given) in kinds {
             if kind != due {
-                let at_line = if due < 3 { due } else { due + 1 };
-                let given = if kind < 3 { kind } else { kind + 1 };
-                instead(&rt, heap, at_line, line(given as usize), 3, 0)?;
+                at(due, given, 3, 0).instead(&rt, heap)?;
             }
         }
     }
@@ -21,15 +21,13 @@ fn another_kind_than_the_one_due(rt: HostRuntime) -> Result<(), Fail> {
 fn a_kind_that_is_none(rt: HostRuntime) -> Result<(), Fail> {
     let heap = rt.alloc();
     for k in 1..8u16 {
-        each(
-            &rt,
-            heap,
-            &[
-                at(k, b"00\n", 3, 0),
-                at(k, b"06\n", 3, 0),
-                at(k, b"ff030002\n", 3, 0),
-            ],
-        )?;
+        for damage in [
+            at(k, b"00\n", 3, 0),
+            at(k, b"06\n", 3, 0),
+            at(k, b"ff030002\n", 3, 0),
+        ] {
+            damage.instead(&rt, heap)?;
+        }
     }
     Ok(())
 }
@@ -38,16 +36,16 @@ fn a_kind_that_is_none(rt: HostRuntime) -> Result<(), Fail> {
 #[test]
 fn actions_as_announced(rt: HostRuntime) -> Result<(), Fail> {
     let heap = rt.alloc();
-    instead(&rt, heap, 4, line(3), 3, 0)?;
-    instead(&rt, heap, 3, line(4), 3, 0)?;
-    gives(&rt, heap, b"01030000\n02010101000100\n", 3, 2, 0)
+    at(4, SECOND, 3, 0).instead(&rt, heap)?;
+    at(3, GOAL, 3, 0).instead(&rt, heap)?;
+    gives(&rt, heap, b"01030000\n02010101000100\n", Told::of(3, 2, 0))
 }
 
 #[test]
 fn nothing_is_due_after_the_end(rt: HostRuntime) -> Result<(), Fail> {
     let heap = rt.alloc();
-    for k in 1..7usize {
-        instead(&rt, heap, 7, line(k), 3, 0)?;
+    for line in lines() {
+        at(7, line, 3, 0).instead(&rt, heap)?;
     }
     Ok(())
 }

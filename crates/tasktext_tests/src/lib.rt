@@ -1,4 +1,4 @@
-// Tests of task texts: damaged ones, ones at the limits, and loads.
+// Tests of task texts: damaged ones, ones at the limits, and loads; and of faults in words.
 #![tactic(auto)]
 
 #[cfg(test)]
@@ -13,5 +13,7 @@ mod limits;
 mod loads;
 #[cfg(test)]
 mod numbers;
+#[cfg(test)]
+mod words;
 #[cfg(test)]
 mod written;

@@ -1,16 +1,7 @@
 // Texts at the limits.
 use crate::written::*;
-use std::alloc::Global;
 use std::test::Fail;
-use strips::task::Task;
 use tasktext::text::read_task;
-
-fn accepted(heap: Global, text: &[u8]) -> Result<Task, Fail> {
-    match read_task(heap, text) {
-        Ok(task) => Ok(task),
-        Err(_) => Err(Fail::new("a sound text was refused")),
-    }
-}
 
 // A frame of this kind that lists the facts below `count`.
 fn add_list(text: &mut Vec<u8>, kind: u8, count: u8) -> Result<(), Fail> {
@@ -39,10 +30,10 @@ fn add_action(text: &mut Vec<u8>, count: u8) -> Result<(), Fail> {
 #[test]
 fn the_small_task_is_read(rt: HostRuntime) -> Result<(), Fail> {
     let mut text = Vec::new(rt.alloc());
-    for k in 1..7usize {
-        add(&mut text, line(k))?;
+    for line in lines() {
+        add(&mut text, line)?;
     }
-    let task = accepted(rt.alloc(), text.as_slice())?;
+    let task = read_task(rt.alloc(), &text)?;
     assert_eq!(rt; task.facts(), 3);
     assert_eq!(rt; task.action_count(), 2);
     assert_eq!(rt; task.goal(), [2u8].as_slice());
@@ -58,7 +49,7 @@ fn the_small_task_is_read(rt: HostRuntime) -> Result<(), Fail> {
 
 #[test]
 fn the_smallest_text(rt: HostRuntime) -> Result<(), Fail> {
-    let task = accepted(rt.alloc(), b"01010000\n0300\n0400\n05\n")?;
+    let task = read_task(rt.alloc(), b"01010000\n0300\n0400\n05\n")?;
     assert_eq!(rt; task.facts(), 1);
     assert_eq!(rt; task.action_count(), 0);
     assert!(rt; task.goal().is_empty());
@@ -69,7 +60,7 @@ fn the_smallest_text(rt: HostRuntime) -> Result<(), Fail> {
 // Order matters within a list only: the next list may begin lower.
 #[test]
 fn lists_may_begin_lower(rt: HostRuntime) -> Result<(), Fail> {
-    let task = accepted(
+    let task = read_task(
         rt.alloc(),
         b"01030001\n02010101020100\n0300\n0403000102\n05\n",
     )?;
@@ -88,7 +79,7 @@ fn the_largest_task_is_read(rt: HostRuntime) -> Result<(), Fail> {
     add_list(&mut text, 3, 255)?;
     add_list(&mut text, 4, 255)?;
     add(&mut text, b"05\n")?;
-    let task = accepted(rt.alloc(), text.as_slice())?;
+    let task = read_task(rt.alloc(), &text)?;
     assert_eq!(rt; task.facts(), 255);
     assert_eq!(rt; task.action_count(), 512);
     assert_eq!(rt; task.goal().len(), 255);
@@ -112,12 +103,12 @@ fn the_last_line_numbers(rt: HostRuntime) -> Result<(), Fail> {
         add(&mut text, b"02000000\n")?;
     }
     add(&mut text, b"0300\n0400\n")?;
-    gives(&rt, heap, text.as_slice(), 7, 516, 1)?;
+    gives(&rt, heap, &text, Told::of(7, 516, 1))?;
     add(&mut text, b"05\n")?;
-    let task = accepted(heap, text.as_slice())?;
+    let task = read_task(heap, &text)?;
     assert_eq!(rt; task.action_count(), 512);
     add(&mut text, b"05\n")?;
-    gives(&rt, heap, text.as_slice(), 3, 517, 0)
+    gives(&rt, heap, &text, Told::of(3, 517, 0))
 }
 
 #[test]
@@ -133,7 +124,7 @@ fn seventeen_in_a_list(rt: HostRuntime) -> Result<(), Fail> {
             add_byte(&mut text, f)?;
         }
         add(&mut text, b"\n")?;
-        gives(&rt, heap, text.as_slice(), 5, 2, place)?;
+        gives(&rt, heap, &text, Told::of(5, 2, place))?;
     }
     Ok(())
 }
@@ -147,7 +138,7 @@ fn the_longest_line(rt: HostRuntime) -> Result<(), Fail> {
     add_list(&mut text, 3, 255)?;
     assert_eq!(rt; text.len(), 9 + 514 + 1);
     add(&mut text, b"0400\n05\n")?;
-    let task = accepted(heap, text.as_slice())?;
+    let task = read_task(heap, &text)?;
     assert_eq!(rt; task.goal().len(), 255);
     Ok(())
 }
@@ -156,9 +147,9 @@ fn the_longest_line(rt: HostRuntime) -> Result<(), Fail> {
 #[test]
 fn the_last_fact(rt: HostRuntime) -> Result<(), Fail> {
     let heap = rt.alloc();
-    gives(&rt, heap, b"01ff0000\n0301ff\n", 5, 2, 2)?;
-    gives(&rt, heap, b"01fe0000\n0301fe\n", 5, 2, 2)?;
-    let task = accepted(heap, b"01ff0000\n0301fe\n0400\n05\n")?;
+    gives(&rt, heap, b"01ff0000\n0301ff\n", Told::of(5, 2, 2))?;
+    gives(&rt, heap, b"01fe0000\n0301fe\n", Told::of(5, 2, 2))?;
+    let task = read_task(heap, b"01ff0000\n0301fe\n0400\n05\n")?;
     assert_eq!(rt; task.goal(), [254u8].as_slice());
     Ok(())
 }

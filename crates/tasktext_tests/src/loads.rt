@@ -8,19 +8,7 @@ use textfault::fault::{FrameFault, LineFault, LoadFault};
 // Hands one line to the load, and keeps the load whatever comes of it.
 fn hand(load: &mut Load, text: &[u8]) -> Option<LoadFault> {
     let mut reader = Reader::new(text);
-    match load.take_line(&mut reader) {
-        Ok(()) => None,
-        Err(fault) => Some(fault),
-    }
-}
-
-fn is_fault(given: Option<LoadFault>, number: u8, at_line: u16, place: u16) -> bool {
-    match given {
-        Some(fault) => fault.number() == number
-            && fault.place().line == at_line
-            && fault.place().at == place,
-        None => false,
-    }
+    load.take_line(&mut reader).err()
 }
 
 #[test]
@@ -33,11 +21,11 @@ fn a_refused_line_leaves_the_load(rt: HostRuntime) -> Result<(), Fail> {
     let wrong = hand(&mut load, b"02010101000109\n");
     let mended = hand(&mut load, b"02010101000100\n");
     let count = load.abandon();
-    assert!(rt; is_fault(first, 1, 1, 9));
+    assert_eq!(rt; first.map(Told::from), Some(Told::of(1, 1, 9)));
     assert!(rt; taken.is_none());
-    assert!(rt; is_fault(again, 3, 2, 0));
-    assert!(rt; is_fault(short, 4, 2, 5));
-    assert!(rt; is_fault(wrong, 5, 2, 6));
+    assert_eq!(rt; again.map(Told::from), Some(Told::of(3, 2, 0)));
+    assert_eq!(rt; short.map(Told::from), Some(Told::of(4, 2, 5)));
+    assert_eq!(rt; wrong.map(Told::from), Some(Told::of(5, 2, 6)));
     assert!(rt; mended.is_none());
     assert_eq!(rt; count, 2);
     Ok(())
@@ -60,7 +48,7 @@ fn closing_early_leaves_the_load_open(rt: HostRuntime) -> Result<(), Fail> {
                         head.is_none() && goal.is_none() && start.is_none() && end.is_none()
                     );
                     assert!(rt; matches!(fault, LoadFault::Early(_)));
-                    assert!(rt; is_fault(Some(fault), 7, 2, 1));
+                    assert_eq!(rt; Told::from(fault), Told::of(7, 2, 1));
                     assert_eq!(rt; count, 4);
                     assert_eq!(rt; task.facts(), 1);
                     Ok(())

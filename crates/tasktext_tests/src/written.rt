@@ -3,24 +3,27 @@ use std::alloc::Global;
 use std::process::Abort;
 use std::test::Fail;
 use tasktext::text::read_task;
-use textfault::fault::ReadFault;
+use textfault::fault::{LoadFault, ReadFault};
 
 // The lines of a small task: three facts, action 0 leads from 0 to 1, action 1 from 1 to 2, each deleting what it needs.
-pub fn line(number: usize) -> &'static [u8] {
-    match number {
-        1 => b"01030002\n",
-        2 => b"02010101000100\n",
-        3 => b"02010101010201\n",
-        4 => b"030102\n",
-        5 => b"040100\n",
-        6 => b"05\n",
-        _ => b"",
-    }
+pub const HEAD: &[u8] = b"01030002\n";
+
+pub const FIRST: &[u8] = b"02010101000100\n";
+
+pub const SECOND: &[u8] = b"02010101010201\n";
+
+pub const GOAL: &[u8] = b"030102\n";
+
+pub const START: &[u8] = b"040100\n";
+
+pub const END: &[u8] = b"05\n";
+
+pub fn lines() -> [&'static [u8]; 6] {
+    [HEAD, FIRST, SECOND, GOAL, START, END]
 }
 
 pub fn add(text: &mut Vec<u8>, part: &[u8]) -> Result<(), Fail> {
-    text.extend_from_slice(part)?;
-    Ok(())
+    Ok(text.extend_from_slice(part)?)
 }
 
 // The digits of a byte.
@@ -31,116 +34,88 @@ pub fn add_byte(text: &mut Vec<u8>, byte: u8) -> Result<(), Fail> {
     Ok(())
 }
 
-// Reading the text gives this fault.
-pub fn gives(
-    rt: &impl Abort,
-    heap: Global,
-    text: &[u8],
+// The same character over and over, then an end.
+pub fn run_of(heap: Global, character: u8, count: usize, end: &[u8]) -> Result<Vec<u8>, Fail> {
+    let mut text = vec![in heap; character; count]?;
+    add(&mut text, end)?;
+    Ok(text)
+}
+
+// A fault as it is told.
+#[derive(Clone, Copy, Debug, PartialEq, Eq)]
+pub struct Told {
     number: u8,
-    at_line: u16,
+    line: u16,
     place: u16,
-) -> Result<(), Fail> {
+}
+
+impl Told {
+    pub fn of(number: u8, line: u16, place: u16) -> Told {
+        Told {
+            number,
+            line,
+            place,
+        }
+    }
+}
+
+impl From<LoadFault> for Told {
+    fn from(fault: LoadFault) -> Told {
+        Told::of(fault.number(), fault.place().line, fault.place().at)
+    }
+}
+
+// Reading the text gives this fault.
+pub fn gives(rt: &impl Abort, heap: Global, text: &[u8], fault: Told) -> Result<(), Fail> {
     match read_task(heap, text) {
         Ok(_) => Err(Fail::new("a damaged text was accepted")),
         Err(ReadFault::Memory) => Err(Fail::new("no memory")),
-        Err(ReadFault::Text(fault)) => {
-            assert_eq!(rt; fault.place().line, at_line);
-            assert_eq!(rt; fault.number(), number);
-            assert_eq!(rt; fault.place().at, place);
+        Err(ReadFault::Text(given)) => {
+            assert_eq!(rt; Told::from(given), fault);
             Ok(())
         }
     }
 }
 
-// The small task's text with one line replaced and the lines after it kept gives this fault in that line.
-pub fn instead(
-    rt: &impl Abort,
-    heap: Global,
-    at_line: u16,
-    damaged: &[u8],
-    number: u8,
-    place: u16,
-) -> Result<(), Fail> {
-    let mut text = Vec::new(heap);
-    for k in 1..8u16 {
-        if k == at_line {
-            add(&mut text, damaged)?;
-        } else {
-            add(&mut text, line(k as usize))?;
-        }
-    }
-    gives(rt, heap, text.as_slice(), number, at_line, place)
-}
-
-// The small task's text up to this line, then this end, gives the fault in that line.
-pub fn cut(
-    rt: &impl Abort,
-    heap: Global,
-    at_line: u16,
-    end: &[u8],
-    number: u8,
-    place: u16,
-) -> Result<(), Fail> {
-    let mut text = Vec::new(heap);
-    for k in 1..at_line {
-        add(&mut text, line(k as usize))?;
-    }
-    add(&mut text, end)?;
-    gives(rt, heap, text.as_slice(), number, at_line, place)
-}
-
-// A damaged line, or a text's end, and the fault that it gives.
+// A damaged line, or a text's end, and the fault that it gives in that line.
 #[derive(Clone, Copy)]
 pub struct Damage<'a> {
-    line: u16,
     damaged: &'a [u8],
-    number: u8,
-    place: u16,
+    fault: Told,
 }
 
 pub fn at(line: u16, damaged: &[u8], number: u8, place: u16) -> Damage<'_> {
     Damage {
-        line,
         damaged,
-        number,
-        place,
+        fault: Told::of(number, line, place),
     }
 }
 
-pub fn each(rt: &impl Abort, heap: Global, table: &[Damage<'_>]) -> Result<(), Fail> {
-    for k in 0..table.len() {
-        instead(
-            rt,
-            heap,
-            table[k].line,
-            table[k].damaged,
-            table[k].number,
-            table[k].place,
-        )?;
+impl Damage<'_> {
+    // The small task's text up to the line, then what is damaged.
+    fn begun(&self, heap: Global) -> Result<Vec<u8>, Fail> {
+        let mut text = Vec::new(heap);
+        for line in lines()
+            .iter()
+            .take((self.fault.line as usize).saturating_sub(1))
+        {
+            add(&mut text, line)?;
+        }
+        add(&mut text, self.damaged)?;
+        Ok(text)
     }
-    Ok(())
-}
 
-pub fn each_cut(rt: &impl Abort, heap: Global, table: &[Damage<'_>]) -> Result<(), Fail> {
-    for k in 0..table.len() {
-        cut(
-            rt,
-            heap,
-            table[k].line,
-            table[k].damaged,
-            table[k].number,
-            table[k].place,
-        )?;
+    // It gives its fault where the lines after it are kept.
+    pub fn instead(&self, rt: &impl Abort, heap: Global) -> Result<(), Fail> {
+        let mut text = self.begun(heap)?;
+        for line in lines().iter().skip(self.fault.line as usize) {
+            add(&mut text, line)?;
+        }
+        gives(rt, heap, &text, self.fault)
     }
-    Ok(())
-}
 
-// The same character over and over, then an end.
-pub fn run_of(heap: Global, character: u8, count: usize, end: &[u8]) -> Result<Vec<u8>, Fail> {
-    let mut text = Vec::new(heap);
-    for _ in 0..count {
-        text.push(character)?;
+    // It gives its fault where the text ends with it.
+    pub fn cut(&self, rt: &impl Abort, heap: Global) -> Result<(), Fail> {
+        gives(rt, heap, &self.begun(heap)?, self.fault)
     }
-    add(&mut text, end)?;
-    Ok(text)
 }

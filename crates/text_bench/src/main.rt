@@ -10,10 +10,7 @@ use strips::task::Task;
 use tasktext::text::read_task;
 
 fn read_once(rt: &HostRuntime, text: &[u8]) -> anyhow::Result<Task> {
-    match read_task(rt.alloc(), text) {
-        Ok(task) => Ok(task),
-        Err(_) => Err(anyhow!("the text is refused")),
-    }
+    read_task(rt.alloc(), text).map_err(|_| anyhow!("the text is refused"))
 }
 
 fn read_often(rt: &HostRuntime, text: &[u8], times: u32) -> anyhow::Result<usize> {
@@ -29,14 +26,14 @@ fn run(rt: &HostRuntime) -> anyhow::Result<()> {
     rt.stdin().read_to_end(&mut text)?;
     let mut args = env::args(rt)?.skip(1);
     let Some(word) = args.next() else {
-        let task = read_once(rt, text.as_slice())?;
+        let task = read_once(rt, &text)?;
         let facts = task.facts();
         let actions = task.action_count();
         return Ok(println!(rt; "{facts} facts, {actions} actions")?);
     };
     let times = word.as_str().parse::<u32>()?;
     let start = Instant::now(rt)?;
-    let items = read_often(rt, text.as_slice(), times)?;
+    let items = read_often(rt, &text, times)?;
     let took = start.elapsed(rt)?.as_nanos();
     Ok(println!(rt; "{took} {items}")?)
 }

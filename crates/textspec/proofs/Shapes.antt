@@ -115,23 +115,22 @@ module _ (n : ℕ) where
   pub part_under : (b : List ℕ) → Passed (Action n) b → (from count : ℕ) → 4 ≤ from → from + count ≤ length b → under n (take count (drop from b)) ≡ true
   part_under b h from count l m = under_part n b from count m (λ k i j. action_under n b h k (omega arith) (omega arith))
 
-pub list_goal : (n : ℕ) (b : List ℕ) → Passed (Goal n) b → Listing b
-list_goal n b h =
-    let p = and_parts (leb 2 (length b)) (eqb (length b) (2 + get_or b 1 0)) h.size in
+-- the tests of a goal's and of a start's frame
+listing : (b : List ℕ) → (leb 2 (length b) && eqb (length b) (2 + get_or b 1 0)) ≡ true
+    → ((k : ℕ) → k < length b → (ltb 2 k && leb (get_or b k 0) (get_or b (k - 1) 0)) ≡ false) → Listing b
+listing b size rising =
+    let p = and_parts (leb 2 (length b)) (eqb (length b) (2 + get_or b 1 0)) size in
     record {
       some = leb-true _ _ p.0;
       size = eqb-true _ _ p.1;
-      rising = λ k l m. leb-false _ _ (sym (ap (λ t. t && leb (get_or b k 0) (get_or b (k - 1) 0)) (lt-ltb 2 k l)) ∙ h.rising k m);
+      rising = λ k l m. leb-false _ _ (sym (ap (λ t. t && leb (get_or b k 0) (get_or b (k - 1) 0)) (lt-ltb 2 k l)) ∙ rising k m);
     }
 
+pub list_goal : (n : ℕ) (b : List ℕ) → Passed (Goal n) b → Listing b
+list_goal n b h = listing b h.size h.rising
+
 pub list_start : (n : ℕ) (b : List ℕ) → Passed (Start n) b → Listing b
-list_start n b h =
-    let p = and_parts (leb 2 (length b)) (eqb (length b) (2 + get_or b 1 0)) h.size in
-    record {
-      some = leb-true _ _ p.0;
-      size = eqb-true _ _ p.1;
-      rising = λ k l m. leb-false _ _ (sym (ap (λ t. t && leb (get_or b k 0) (get_or b (k - 1) 0)) (lt-ltb 2 k l)) ∙ h.rising k m);
-    }
+list_start n b h = listing b h.size h.rising
 
 -- every byte from the second on is below n
 pub rest_under : (n : ℕ) (b : List ℕ) → 2 ≤ length b → ((k : ℕ) → k < length b → (leb 2 k && leb n (get_or b k 0)) ≡ false) → under n (drop 2 b) ≡ true

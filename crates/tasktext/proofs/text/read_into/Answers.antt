@@ -1,28 +1,15 @@
-use Rattle.std.proofs.Common.{◌≡◌, ◌<◌, [], ◌++◌, length, sym, ap, ◌∙◌, subst, arith, rules}
-use Rattle.std.specs.List.{flat_map}
+use Rattle.std.proofs.Common.{◌≡◌, ◌<◌, [], length, sym, subst, arith, rules}
 use Rattle.std.proofs.lemmas.List.{nil_from_length}
 use Rattle.std.proofs.lemmas.Bool.{eqb-true, eqb-false}
-use Rattle.textspec.specs.Hex.{line_of}
-use Rattle.textspec.specs.Texts.{Begins, InTurn}
+use Rattle.textspec.specs.Texts.{Begins}
 use Rattle.hexline.specs.Lines.{left}
 use Rattle.tasktext.specs.Loads.{taken}
-use Rattle.tasktext.proofs.Steps.{begins_more, less_left}
+use Rattle.tasktext.proofs.Steps.{begins_more}
 use Rattle.tasktext.proofs.Ends.{at_line, closed}
 use Rattle.tasktext.proofs.text.read_into.Goals as goal
 
-pub loop-reader-init : goal.loop-reader-init
-loop-reader-init c =
-    let e = c.requires in
-    record {
-      is = sym c.new-reader.ensures ∙ ap (λ fs. flat_map line_of fs ++ left c.new-reader.result) (sym e);
-      turn = subst (InTurn []) (sym e) tt;
-    }
-
 pub loop-reader-preserved : goal.loop-reader-preserved
 loop-reader-preserved c = begins_more _ _ c.args.text.now _ _ c.in_default.ensures c.loop-reader.invariant
-
-pub loop-reader-smaller : goal.loop-reader-smaller
-loop-reader-smaller c = less_left _ _ c.args.text.now _ _ c.in_default.ensures
 
 pub returns-in-Err : goal.returns-in-Err
 returns-in-Err c =

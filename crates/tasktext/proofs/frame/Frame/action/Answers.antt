@@ -9,21 +9,6 @@ use Rattle.textspec.proofs.Shapes.{part_rising, part_under, action_count, action
 use Rattle.tasktext.proofs.Frames.{passed_as}
 use Rattle.tasktext.proofs.frame.Frame.action.Goals as goal
 
-pub byte-pre-requires : goal.byte-pre-requires
-byte-pre-requires c =
-    let f = c.args.self.now in let n = c.args.facts in let b = bytes_of f.line in
-    omega (arith, (action_whole n b (passed_as f (Action n) c.requires).size).0)
-
-pub byte-add-requires : goal.byte-add-requires
-byte-add-requires c =
-    let f = c.args.self.now in let n = c.args.facts in let b = bytes_of f.line in
-    omega (arith, (action_whole n b (passed_as f (Action n) c.requires).size).0)
-
-pub byte-del-requires : goal.byte-del-requires
-byte-del-requires c =
-    let f = c.args.self.now in let n = c.args.facts in let b = bytes_of f.line in
-    omega (arith, (action_whole n b (passed_as f (Action n) c.requires).size).0)
-
 pub list-requires : goal.list-requires
 list-requires c =
     let f = c.args.self.now in let n = c.args.facts in let b = bytes_of f.line in

@@ -1,12 +1,11 @@
 use Rattle.std.proofs.Common.{◌≡◌, ℕ, ◌+◌, ◌-◌, ◌<◌, ◌⊎◌, false, ◌&&◌, leb, length, get_or, drop, ap, ◌∙◌, subst, ⊎_elim, arith, length-drop}
 use Rattle.std.proofs.lemmas.List.{take_all}
-use Rattle.std.proofs.lemmas.Bool.{eqb-true, not-false}
 use Rattle.hexline.specs.Lines.{bytes_of}
 use Rattle.textspec.specs.declared.due.Due.TheVariants.{Goal, Start}
 use Rattle.strips.specs.Lists.{listed}
 use Rattle.strips.specs.Fitting.{below}
 use Rattle.textspec.proofs.Hexes.{length_bytes}
-use Rattle.textspec.proofs.Shapes.{Listing, list_goal, list_start, list_is, rest_under}
+use Rattle.textspec.proofs.Shapes.{Listing, list_goal, list_start, rest_under}
 use Rattle.tasktext.proofs.Frames.{passed_as}
 use Rattle.tasktext.specs.declared.frame.Frame.{Frame}
 use Rattle.tasktext.proofs.frame.Frame.facts.Goals as goal
@@ -16,9 +15,6 @@ shape f n e = ⊎_elim (λ g. list_goal n (bytes_of f.line) (passed_as f (Goal n
 
 bound : (f : Frame) (n : ℕ) → (f.due ≡ Goal n) ⊎ (f.due ≡ Start n) → (k : ℕ) → k < length (bytes_of f.line) → (leb 2 k && leb n (get_or (bytes_of f.line) k 0)) ≡ false
 bound f n e = ⊎_elim (λ g. (passed_as f (Goal n) g).bound) (λ s. (passed_as f (Start n) s).bound) e
-
-pub byte-requires : goal.byte-requires
-byte-requires c = omega (arith, (shape c.args.self.now c.args.facts c.requires).some)
 
 pub list-requires : goal.list-requires
 list-requires c =
@@ -40,16 +36,12 @@ list-requires c =
       ),
     )
 
-pub returns : goal.returns
-returns c =
+pub returns-clause-fit : goal.returns-clause-fit
+returns-clause-fit c =
     let f = c.args.self.now in
     let n = c.args.facts in
     let b = bytes_of f.line in
     let h = shape f n c.requires in
     let e1 = c.byte.ensures in
     let rest : listed c.list.result ≡ drop 2 b = c.list.ensures ∙ take_all c.byte.result (drop 2 b) (omega (arith, length-drop 2 b, h.size)) in
-    record {
-      goal = λ g. list_is 3 b _ h (eqb-true _ _ (not-false _ (passed_as f (Goal n) g).kind)) rest;
-      start = λ s. list_is 4 b _ h (eqb-true _ _ (not-false _ (passed_as f (Start n) s).kind)) rest;
-      fit = ap (below n) rest ∙ rest_under n b h.some (bound f n c.requires);
-    }
+    ap (below n) rest ∙ rest_under n b h.some (bound f n c.requires)

@@ -49,8 +49,8 @@ returns-in-Some c =
     let b = bytes_of w.line in
     let n : c.loop-k.k ≡ length b = omega (arith, c.len-k-end.ensures.size) in (
       refused_6 w.due b w.kind w.size c.in-Some.k
-      (first_none (out_of_bounds w.due b) (length b) (λ i h. c.loop-k.invariant.bound i (omega arith)))
-      (ap (first (not_rising w.due b)) (sym n) ∙ sym c.loop-k.invariant.fall ∙ c.in-Some.is),
+          (first_none (out_of_bounds w.due b) (length b) (λ i h. c.loop-k.invariant.bound i (omega arith)))
+          (ap (first (not_rising w.due b)) (sym n) ∙ sym c.loop-k.invariant.fall ∙ c.in-Some.is),
       c.number-number.ensures,
     )
 
