@@ -2,34 +2,15 @@
 use Rattle.std.proofs.Common.{◌≡◌, ℕ, ◌+◌, ◌<◌, ◌≤◌, cond, ltb, List, [], ◌∷◌, length, get_or, drop, Some, None, Err, Result, sym, refl, ap, ◌∙◌, ⊎_elim, arith, le-ltb, lt-ltb}
 use Rattle.std.specs.List.{slice_get}
 use Rattle.std.proofs.lemmas.List.{at_drop_more, at_drop_all}
-use Rattle.std.proofs.lemmas.Option.{slice_get-get_or, slice_get_past}
 use Rattle.std.proofs.lemmas.Bool.{cases_lt, false≢true}
-use Rattle.model.specs.Strips.{Problem, Action, State, action, no_action, step, Within}
+use Rattle.model.specs.Strips.{Problem, Action, State, action, step, Within}
 use Rattle.model.specs.Rehearsals.{Verdict, plan, unknown, blocked, missing, lacking, unless, verdict_from, verdict, good, refused, reading}
 use Rattle.model.proofs.Rehearsals.{verdicts}
 use Rattle.strips.specs.Members.{FirstFrom}
+use Rattle.strips.proofs.Keeping.{known, beyond}
 use Rattle.rehearsal.specs.declared.verdict.Verdict.{Verdict as Answer}
 use Rattle.rehearsal.specs.declared.verdict.UnknownFact.{UnknownFact}
 use Rattle.rehearsal.specs.Rehearsed.{shown, Rehearsed}
-
-no_some : {X : Type 0} (x : X) → Some x ≡ None → ⊥
-no_some x e = let z : ◌≡◌ {A = ℕ} 0 1 = ap (λ o. elim o [ Some y ↦ 0 | None ↦ 1 ]) e in omega arith
-
-not_good : {n : ℕ} {l : List ℕ} → refused n l ≡ good → ⊥
-not_good e = let z : ◌≡◌ {A = ℕ} 0 1 = ap (λ r. elim r [ refused n l ↦ 0 | good ↦ 1 ]) e in omega arith
-
-some_same : {X : Type 0} (x y : X) → Some x ≡ Some y → x ≡ y
-some_same x y e = cc
-
-pub known : (l : List Action) (k : ℕ) (a : Action) → slice_get l k ≡ Some a → (k < length l) × (get_or l k no_action ≡ a)
-known l k a e =
-    ⊎_elim
-    (λ lt. (lt, some_same _ _ (sym (slice_get-get_or l k no_action lt) ∙ e)))
-    (λ le. absurd (no_some a (sym e ∙ slice_get_past l k le)))
-    (cases_lt k (length l))
-
-pub beyond : (l : List Action) (k : ℕ) → slice_get l k ≡ None → length l ≤ k
-beyond l k e = ⊎_elim (λ lt. absurd (no_some _ (sym (slice_get-get_or l k no_action lt) ∙ e))) (λ le. le) (cases_lt k (length l))
 
 module _ (p : Problem) (acts : List ℕ) (i : ℕ) (s : State) where
   abbrev next : Verdict
@@ -42,12 +23,12 @@ module _ (p : Problem) (acts : List ℕ) (i : ℕ) (s : State) where
   more lt = at_drop_more (verdict_from p i s) acts i 0 lt
 
   pub at_unknown : i < length acts → slice_get p.actions (get_or acts i 0) ≡ None → verdict_from p i s (drop i acts) ≡ unknown i
-  at_unknown lt e = more lt ∙ ap (λ b. cond b tried (unknown i)) (le-ltb _ _ (beyond p.actions (get_or acts i 0) e))
+  at_unknown lt e = more lt ∙ ap (λ b. cond b tried (unknown i)) (le-ltb _ _ (beyond p (get_or acts i 0) e))
 
   module _ (a : Action) (lt : i < length acts) (e : slice_get p.actions (get_or acts i 0) ≡ Some a) where
     at_tried : verdict_from p i s (drop i acts) ≡ unless (lacking s a.pre) (blocked i) next
     at_tried =
-        let k = known p.actions (get_or acts i 0) a e in
+        let k = known p (get_or acts i 0) a e in
         more lt ∙ ap (λ b. cond b tried (unknown i)) (lt-ltb _ _ k.0) ∙ ap (λ b. unless (lacking s b.pre) (blocked i) next) k.1
 
     pub at_blocked : (f : ℕ) → lacking s a.pre ≡ Some f → verdict_from p i s (drop i acts) ≡ blocked i f
@@ -58,6 +39,10 @@ module _ (p : Problem) (acts : List ℕ) (i : ℕ) (s : State) where
 
   pub at_end : length acts ≤ i → verdict_from p i s (drop i acts) ≡ unless (lacking s p.goal) missing plan
   at_end le = at_drop_all (verdict_from p i s) acts i le
+
+-- no refusal is a plan
+not_good : {n : ℕ} {l : List ℕ} → refused n l ≡ good → ⊥
+not_good e = cc
 
 reading_good : (v : Verdict) → reading v ≡ good → v ≡ plan
 reading_good plan e = refl

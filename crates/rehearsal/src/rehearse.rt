@@ -9,8 +9,8 @@ use crate::verdict::{UnknownFact, Verdict};
 use strips::state::State;
 use strips::task::Task;
 
-// Takes the steps on the live state, which the guard gives back as it was.
-fn tried(task: &Task, live: &mut State, steps: &[u16]) -> Result<Verdict, UnknownFact>
+// Takes the steps on the live state, in turn, and answers whether they are a plan. The live state stands afterwards as it stood.
+pub fn rehearse(task: &Task, live: &mut State, steps: &[u16]) -> Result<Verdict, UnknownFact>
     ensures same { live.new ≡ live.old }
     ensures answer { Rehearsed (problem task.now) (standing live.old) steps.now result }
 {
@@ -32,12 +32,4 @@ fn tried(task: &Task, live: &mut State, steps: &[u16]) -> Result<Verdict, Unknow
         return Ok(Verdict::GoalMissing { fact });
     }
     Ok(Verdict::Plan)
-}
-
-// Takes the steps on the live state, in turn, and answers whether they are a plan. The live state stands afterwards as it stood.
-pub fn rehearse(task: &Task, live: &mut State, steps: &[u16]) -> Result<Verdict, UnknownFact>
-    ensures same { live.new ≡ live.old }
-    ensures answer { Rehearsed (problem task.now) (standing live.old) steps.now result }
-{
-    tried(task, live, steps)
 }

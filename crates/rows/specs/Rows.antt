@@ -3,10 +3,11 @@
 --   fresh   a row that was not opened, without links
 --   blank   the row that reads give past the end
 --   bare    a row without its links
-use Rattle.std.specs.Prelude.{ℕ, false, [], ◌∷◌, refl}
+use Rattle.std.specs.Prelude.{ℕ, false}
 use Rattle.figure.specs.declared.figure.Figure.{Figure}
 use Rattle.figure.specs.declared.figure.Figure.TheVariants.{None}
 use Rattle.strips.specs.declared.state.State.{State}
+use Rattle.strips.specs.Standing.{nothing}
 use Rattle.rows.specs.declared.row.Row.{Row}
 
 -- a row that was not opened, without links
@@ -16,7 +17,7 @@ fresh state steps estimate from action =
 
 -- the row that reads give past the end
 abbrev pub blank : Row
-blank = fresh (record { facts = record { words = 0 ∷ 0 ∷ 0 ∷ 0 ∷ []; four = refl } }) 0 None 0 0
+blank = fresh nothing 0 None 0 0
 
 -- a row without its links
 abbrev pub bare : Row → Row

@@ -1,15 +1,10 @@
 -- Lists of facts as states, and tests over lists. Assumes nothing.
-use Rattle.std.proofs.Common.{◌≡◌, ℕ, zero, suc, ◌+◌, ◌<◌, Bool, true, false, not, ◌&&◌, ◌||◌, eqb, ◌⊎◌, List, [], ◌∷◌, map, length, get_or, drop, is_some, Decides, Option, sym, refl, ap, ◌∙◌, inl, inr, ⊎_elim, arith}
+use Rattle.std.proofs.Common.{◌≡◌, ℕ, Bool, true, false, not, ◌||◌, eqb, ◌⊎◌, List, [], ◌∷◌, map, cond, find, Some, option_map, Option, sym, refl, ap, ◌∙◌, inl, inr, ⊎_elim, arith}
+use Rattle.std.proofs.lemmas.Iterator.Adapters.{option_map_id}
 use Rattle.std.specs.List.{AllByRecursion, list_all}
-use Rattle.std.proofs.lemmas.List.{at_drop_more}
-use Rattle.std.proofs.lemmas.Bool.{eqb-true, eq-eqb, and_parts, false≢true}
+use Rattle.std.proofs.lemmas.Bool.{eqb-true, eq-eqb, and_parts}
 use Rattle.model.specs.Strips.{State, Stands, names}
 use Rattle.model.specs.Rehearsals.{lacking}
-use Rattle.model.proofs.Rehearsals.{every_lacking, told_lacking}
-
-pub or_false : (a : Bool) → (a || false) ≡ a
-or_false true = refl
-or_false false = refl
 
 -- one more fact is moved from the list to the state
 pub or_move : (a b c : Bool) → (b || (a || c)) ≡ ((a || b) || c)
@@ -41,12 +36,6 @@ stand_named s (x ∷ l) h =
     (h x (or_left (eqb x x) (names l x) (eq-eqb x x refl)), stand_named s l (λ f e. h f (or_right (eqb x f) (names l f) e)))
 
 module _ {X : Type 0} (p : X → Bool) where
-  pub pass_more : (xs : List X) (i : ℕ) (d : X) → i < length xs → p (get_or xs i d) ≡ true → list_all p (drop i xs) ≡ list_all p (drop (i + 1) xs)
-  pass_more xs i d h t = at_drop_more (list_all p) xs i d h ∙ ap (λ b. b && list_all p (drop (i + 1) xs)) t
-
-  pub pass_stop : (xs : List X) (i : ℕ) (d : X) → i < length xs → p (get_or xs i d) ≡ false → list_all p (drop i xs) ≡ false
-  pass_stop xs i d h t = at_drop_more (list_all p) xs i d h ∙ ap (λ b. b && list_all p (drop (i + 1) xs)) t
-
   pub pass_every : (xs : List X) → list_all p xs ≡ true → AllByRecursion (λ x. p x ≡ true) xs
   pass_every [] h = tt
   pass_every (x ∷ xs) h = let q = and_parts (p x) (list_all p xs) h in (q.0, pass_every xs q.1)
@@ -61,12 +50,14 @@ module _ {X : Type 0} (P Q : X → Type 0) where
   every_like h [] e = tt
   every_like h (x ∷ xs) e = (h x e.0, every_like h xs e.1)
 
-pub get_d_map : {X Y : Type 0} (f : X → Y) (l : List X) (i : ℕ) (d : X) (e : Y) → i < length l → get_or (map f l) i e ≡ f (get_or l i d)
-get_d_map f [] i d e lt = absurd (omega arith)
-get_d_map f (x ∷ l) zero d e lt = refl
-get_d_map f (x ∷ l) (suc i) d e lt = get_d_map f l i d e (omega arith)
+found : (s : State) (l : List ℕ) → find (λ f. not (s f)) l ≡ lacking s l
+found s [] = refl
+found s (f ∷ l) = turn (s f) ∙ ap (λ o. cond (s f) o (Some f)) (found s l)
+  where
+    turn : (b : Bool) → cond (not b) (Some f) (find (λ g. not (s g)) l) ≡ cond b (find (λ g. not (s g)) l) (Some f)
+    turn true = refl
+    turn false = refl
 
--- nothing is lacking exactly if each fact stands
-pub lacking_decides : (s : State) (l : List ℕ) (o : Option ℕ) (r : Bool) → o ≡ lacking s l → is_some o ≡ not r → Decides r (AllByRecursion (Stands s) l)
-lacking_decides s l o true e h = ((λ _. ⊎_elim (λ every. every.0) (λ first. absurd (false≢true (sym h ∙ ap is_some (e ∙ first.2)))) (told_lacking s l)), λ _. refl)
-lacking_decides s l o false e h = ((λ z. absurd (false≢true z)), (λ every. absurd (false≢true (sym (ap is_some (e ∙ every_lacking s l every)) ∙ h))))
+-- what is lacking is the first fact that does not stand
+pub find_lacking : (s : State) (l : List ℕ) (o : Option ℕ) → option_map (λ f. f) o ≡ find (λ f. not (s f)) l → o ≡ lacking s l
+find_lacking s l o e = sym (option_map_id o) ∙ e ∙ found s l

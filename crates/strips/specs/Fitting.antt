@@ -9,7 +9,7 @@ abbrev pub below : ℕ → List ℕ → Bool
 below n l = list_all (λ f. nat_lt f n) l
 
 abbrev pub fits : ℕ → Action → Bool
-fits n a = below n (listed a.pre) && (below n (listed a.add) && below n (listed a.del))
+fits n a = below n (listed a.preconditions.list) && (below n (listed a.adds.list) && below n (listed a.deletes.list))
 
 abbrev pub all_fit : ℕ → List Action → Bool
 all_fit n l = list_all (fits n) l

@@ -2,8 +2,10 @@
 --
 --   listed   the facts of a list, in order
 --   Pushed   what putting a fact at the end answers and leaves
+--   Taken    what making a list of facts answers
 --   number   a refusal's number
 use Rattle.std.specs.Prelude.{◌≡◌, ℕ, ◌-◌, ◌<◌, ◌≤◌, List, [], ◌∷◌, ◌++◌, length, take, Ok, Err, Result, slice_index}
+use Rattle.model.specs.Strips.{Rising}
 use Rattle.strips.specs.declared.fault.ListFault.{ListFault}
 use Rattle.strips.specs.declared.fault.ListFault.TheVariants.{Full, NotRising}
 use Rattle.strips.specs.declared.list.FactList.{FactList}
@@ -25,3 +27,9 @@ abbrev pub Pushed : ℕ → List ℕ → ℕ → List ℕ → Result (Unit {0}) 
 Pushed n before fact after (Ok _) = (length before < n) × Above before fact × (after ≡ before ++ fact ∷ [])
 Pushed n before fact after (Err Full) = (n ≤ length before) × (after ≡ before)
 Pushed n before fact after (Err NotRising) = (length before < n) × (Above before fact → ⊥) × (after ≡ before)
+
+-- a list of just these facts, of which there are at most n, rising; or the fault of the first that could not join
+abbrev pub Taken : {n : ℕ} → List ℕ → Result (FactList n) ListFault → Type 0
+Taken {n} facts (Ok list) = (length facts ≤ n) × Rising facts × (listed list ≡ facts)
+Taken {n} facts (Err Full) = (n < length facts) × Rising (take n facts)
+Taken {n} facts (Err NotRising) = Rising (take n facts) → ⊥

@@ -17,7 +17,7 @@ use Rattle.strips.specs.Actions.{action_of}
 use Rattle.strips.specs.Fitting.{below, fits}
 
 abbrev pub problem : Task → Problem
-problem t = record { facts = t.facts; actions = map action_of (vec_items t.actions); goal = listed t.goal; start = listed t.start }
+problem t = record { facts = t.facts; actions = map action_of (vec_items t.actions); goal = listed t.goal.list; start = listed t.start }
 
 -- each is a number out of bounds
 abbrev pub number : TaskFault → ℕ

@@ -1,7 +1,9 @@
 // What is refused when a task is made.
+use std::error::Error;
+use std::fmt;
 
 // Why a fact cannot join a list.
-#[derive(Clone, Copy)]
+#[derive(Clone, Copy, Debug, PartialEq, Eq)]
 pub enum ListFault {
     // The list is full.
     Full,
@@ -9,8 +11,19 @@ pub enum ListFault {
     NotRising,
 }
 
+impl fmt::Display for ListFault {
+    fn fmt<W: fmt::Write>(&self, f: &mut fmt::Formatter<W>) -> fmt::Result {
+        match self {
+            ListFault::Full => write!(f, "refused 5: the list is full"),
+            ListFault::NotRising => write!(f, "refused 6: the fact is not above the list's last"),
+        }
+    }
+}
+
+impl Error for ListFault {}
+
 // Why parts make no task.
-#[derive(Clone, Copy)]
+#[derive(Clone, Copy, Debug, PartialEq, Eq)]
 pub enum TaskFault {
     // A task has at least one fact.
     NoFacts,
@@ -23,3 +36,23 @@ pub enum TaskFault {
     // The start names one.
     InStart,
 }
+
+impl fmt::Display for TaskFault {
+    fn fmt<W: fmt::Write>(&self, f: &mut fmt::Formatter<W>) -> fmt::Result {
+        match self {
+            TaskFault::NoFacts => write!(f, "refused 5: no facts"),
+            TaskFault::TooManyActions => write!(f, "refused 5: more than 512 actions"),
+            TaskFault::InAction(number) => write!(
+                f,
+                "refused 5: action {number} names a fact that the task lacks"
+            ),
+            TaskFault::InGoal => write!(f, "refused 5: the goal names a fact that the task lacks"),
+            TaskFault::InStart => write!(
+                f,
+                "refused 5: the start names a fact that the task lacks"
+            ),
+        }
+    }
+}
+
+impl Error for TaskFault {}

@@ -7,40 +7,57 @@ use strips::fault::{ListFault, TaskFault};
 use strips::list::FactList;
 use strips::task::Task;
 
-fn many(heap: Global, count: u16) -> Result<Vec<Action>, Fail> {
-    let mut actions = Vec::new(heap);
-    for _ in 0..count {
-        actions.push(Action::new(run_of(0, 16)?, run_of(239, 16)?, list_of(&[])?))?;
-    }
-    Ok(actions)
+fn many(heap: Global, count: usize) -> Result<Vec<Action>, Fail> {
+    let low = run_of(heap, 0, 16)?;
+    let high = run_of(heap, 239, 16)?;
+    let action = action_of(low.as_slice(), high.as_slice(), &[])?;
+    Ok(vec![in heap; action; count]?)
 }
 
 #[test]
 fn a_list_holds_sixteen_facts(rt: HostRuntime) -> Result<(), Fail> {
-    let mut list: FactList<16> = run_of(0, 16)?;
-    assert!(rt; list.as_slice().len() == 16);
-    assert!(rt; matches!(list.push(16), Err(ListFault::Full)));
-    assert!(rt; list.as_slice().len() == 16);
+    let facts = run_of(rt.alloc(), 0, 16)?;
+    let mut list = FactList::<16>::try_from(facts.as_slice())?;
+    assert_eq!(rt; list.as_slice(), facts.as_slice());
+    assert_eq!(rt; list.push(16), Err(ListFault::Full));
+    assert_eq!(rt; list.as_slice().len(), 16);
     Ok(())
 }
 
 #[test]
 fn a_list_rises(rt: HostRuntime) -> Result<(), Fail> {
-    let mut list: FactList<16> = list_of(&[3])?;
-    assert!(rt; matches!(list.push(3), Err(ListFault::NotRising)));
-    assert!(rt; matches!(list.push(2), Err(ListFault::NotRising)));
-    assert!(rt; list.push(4).is_ok());
-    assert!(rt; list.as_slice().len() == 2);
+    let mut list = FactList::<16>::try_from([3].as_slice())?;
+    assert_eq!(rt; list.push(3), Err(ListFault::NotRising));
+    assert_eq!(rt; list.push(2), Err(ListFault::NotRising));
+    assert_eq!(rt; list.push(4), Ok(()));
+    assert_eq!(rt; list.as_slice().len(), 2);
+    assert!(rt; list == FactList::try_from([3, 4].as_slice())?);
+    Ok(())
+}
+
+#[test]
+fn facts_that_make_no_list(rt: HostRuntime) -> Result<(), Fail> {
+    let facts = run_of(rt.alloc(), 0, 17)?;
+    assert_eq!(rt;
+        FactList::<16>::try_from(facts.as_slice()).err(),
+        Some(ListFault::Full)
+    );
+    assert_eq!(rt;
+        FactList::<16>::try_from([1, 3, 3].as_slice()).err(),
+        Some(ListFault::NotRising)
+    );
+    assert_eq!(rt; FactList::<16>::default().as_slice().len(), 0);
     Ok(())
 }
 
 #[test]
 fn the_largest_task(rt: HostRuntime) -> Result<(), Fail> {
+    let facts = run_of(rt.alloc(), 0, 255)?;
     let task = task_of(
         255,
         many(rt.alloc(), 512)?,
-        run_of(0, 255)?,
-        run_of(0, 255)?,
+        facts.as_slice(),
+        facts.as_slice(),
     )?;
     assert_eq!(rt; task.action_count(), 512);
     assert_eq!(rt; task.item_count(), 767);
@@ -54,10 +71,11 @@ fn the_largest_task(rt: HostRuntime) -> Result<(), Fail> {
 
 #[test]
 fn one_action_too_many(rt: HostRuntime) -> Result<(), Fail> {
-    match Task::new(255, many(rt.alloc(), 513)?, list_of(&[])?, list_of(&[])?) {
+    let none = FactList::new();
+    match Task::new(255, many(rt.alloc(), 513)?, none, none) {
         Ok(_) => Err(Fail::new("513 actions make no task")),
         Err((fault, actions)) => {
-            assert!(rt; matches!(fault, TaskFault::TooManyActions));
+            assert_eq!(rt; fault, TaskFault::TooManyActions);
             assert_eq!(rt; actions.len(), 513);
             Ok(())
         }
@@ -66,7 +84,7 @@ fn one_action_too_many(rt: HostRuntime) -> Result<(), Fail> {
 
 #[test]
 fn the_smallest_task(rt: HostRuntime) -> Result<(), Fail> {
-    let task = task_of(1, Vec::new(rt.alloc()), list_of(&[])?, list_of(&[])?)?;
+    let task = task_of(1, Vec::new(rt.alloc()), &[], &[])?;
     assert_eq!(rt; task.action_count(), 0);
     assert!(rt; task.has_goal(&task.start_state()));
     assert!(rt; !task.may(0, &task.start_state()));
@@ -76,33 +94,38 @@ fn the_smallest_task(rt: HostRuntime) -> Result<(), Fail> {
 #[test]
 fn unknown_facts_are_refused(rt: HostRuntime) -> Result<(), Fail> {
     let none = Vec::new(rt.alloc());
-    assert!(rt;
-        matches!(
-            Task::new(0, none, list_of(&[])?, list_of(&[])?),
-            Err((TaskFault::NoFacts, _))
-        )
-    );
+    assert_eq!(rt; fault_of(0, none, &[], &[])?, TaskFault::NoFacts);
     let none = Vec::new(rt.alloc());
-    assert!(rt;
-        matches!(
-            Task::new(2, none, list_of(&[2])?, list_of(&[])?),
-            Err((TaskFault::InGoal, _))
-        )
-    );
+    assert_eq!(rt; fault_of(2, none, &[2], &[])?, TaskFault::InGoal);
     let none = Vec::new(rt.alloc());
-    assert!(rt;
-        matches!(
-            Task::new(2, none, list_of(&[1])?, list_of(&[2])?),
-            Err((TaskFault::InStart, _))
-        )
-    );
+    assert_eq!(rt; fault_of(2, none, &[1], &[2])?, TaskFault::InStart);
     let mut actions = many(rt.alloc(), 1)?;
-    actions.push(Action::new(list_of(&[])?, list_of(&[])?, list_of(&[255])?))?;
-    assert!(rt;
-        matches!(
-            Task::new(255, actions, list_of(&[])?, list_of(&[])?),
-            Err((TaskFault::InAction(1), _))
-        )
+    actions.push(action_of(&[], &[], &[255])?)?;
+    assert_eq!(rt; fault_of(255, actions, &[], &[])?, TaskFault::InAction(1));
+    Ok(())
+}
+
+#[test]
+fn a_twin_states_the_same(rt: HostRuntime) -> Result<(), Fail> {
+    let task = two_steps(rt.alloc())?;
+    let twin = task.twin(rt.alloc())?;
+    assert!(rt; task.same(&twin));
+    assert!(rt; task == twin);
+    assert!(rt; !task.same(&task_of(3, Vec::new(rt.alloc()), &[2], &[0])?));
+    Ok(())
+}
+
+#[test]
+fn faults_are_told_in_words(rt: HostRuntime) -> Result<(), Fail> {
+    let told = ListFault::NotRising.to_string(rt.alloc())?;
+    assert_eq!(rt;
+        told.as_str(),
+        "refused 6: the fact is not above the list's last"
+    );
+    let told = TaskFault::InAction(3).to_string(rt.alloc())?;
+    assert_eq!(rt;
+        told.as_str(),
+        "refused 5: action 3 names a fact that the task lacks"
     );
     Ok(())
 }

@@ -40,6 +40,7 @@ fn states_are_equal_by_their_facts(rt: HostRuntime) {
     let mut state = State::of(&[0, 63, 64, 127, 128, 191, 192, 255]);
     assert!(rt; state == State::of(&[255, 192, 191, 128, 127, 64, 63, 0]));
     assert!(rt; state != State::of(&[0]));
+    assert!(rt; State::default() == State::of(&[]));
     assert!(rt; state.covers(&State::of(&[64, 192])));
     assert!(rt; !state.covers(&State::of(&[64, 65])));
     state.change(&State::of(&[0, 64, 255]), &State::of(&[255, 1]));

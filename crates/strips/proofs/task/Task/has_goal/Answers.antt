@@ -1,0 +1,11 @@
+use Rattle.std.proofs.lemmas.Bool.Decides.{Decides-like}
+use Rattle.model.specs.Strips.{Goal}
+use Rattle.strips.specs.Standing.{standing}
+use Rattle.strips.proofs.Keeping.{covers_every, every_covers}
+use Rattle.strips.proofs.task.Task.has_goal.Goals as goal
+
+pub returns : goal.returns
+unfolding Goal
+returns c =
+    let goals = c.args.self.now.goal in let s = standing c.args.state.now in
+    Decides-like _ (covers_every s goals) (every_covers s goals) c.covers.ensures
