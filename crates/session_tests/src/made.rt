@@ -19,8 +19,9 @@ pub fn action_of(pre: &[u8], add: &[u8]) -> Action {
 }
 
 pub fn task_of(facts: u8, actions: Vec<Action>, goal: &[u8], start: &[u8]) -> Result<Task, Fail> {
-    Task::new(facts, actions, list_of(goal), list_of(start))
-        .map_err(|_| Fail::new("parts that should make a task"))
+    Task::new(facts, actions, list_of(goal), list_of(start)).map_err(|_| Fail::new(
+        "parts that should make a task",
+    ))
 }
 
 // Actions 1 → 2, 2 → 1 and 0 → 1: the first two hold each other up.

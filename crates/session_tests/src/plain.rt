@@ -50,7 +50,10 @@ fn fact_cell(task: &Task, state: &State, table: &[Cell], fact: u8) -> Cell {
     let facts = usize::from(task.facts());
     let mut best = None;
     for k in 0..task.action_count() {
-        if task.action(k).is_some_and(|action| action.adds().contains(&fact)) {
+        if task
+            .action(k)
+            .is_some_and(|action| action.adds().contains(&fact))
+        {
             best = smaller(best, at(table, facts + k));
         }
     }
