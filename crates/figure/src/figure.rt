@@ -1,8 +1,10 @@
 // A figure is a whole number from 0 to 2,000,000, or none. None is above every number.
 use crate::cost::Cost;
 
-#[derive(Clone, Copy)]
+// None stands last: the derived order goes by the place in this list, then by the number.
+#[derive(Debug, Clone, Copy, Default, PartialEq, Eq, PartialOrd, Ord)]
 pub enum Figure {
-    None,
     Number(Cost),
+    #[default]
+    None,
 }

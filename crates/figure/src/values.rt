@@ -1,12 +1,13 @@
 // Figures and the numbers they stand for.
-ghost use Rattle.std.specs.Prelude.{◌≡◌, ℕ, ◌/◌, ◌≤◌, cond, Some, None as Nothing, Decides, nat_eq, nat_le};
-ghost use Rattle.figure.specs.Ranks.{ceiling, rank, cut, number_of, halved};
-ghost use Rattle.std.specs.Cmp.Rules.{comparing};
-ghost use Rattle.std.proofs.Common.{rules};
-ghost use Rattle.std.specs.Ordering.{on};
+ghost use Rattle.std.specs.Prelude.{◌≡◌, ◌+◌, Some, Decides, min, max, nat_eq, nat_le};
+ghost use Rattle.std.specs.Ordering.{ord_min, ord_max};
+ghost use Rattle.figure.specs.Ranks.{rank, cut, number_of, halved};
+ghost use Rattle.figure.specs.Texts.{printed};
 
 use crate::cost::Cost;
 use crate::figure::Figure;
+use std::fmt;
+use std::ops::Add;
 
 impl Figure {
     // The largest number that is a figure.
@@ -37,16 +38,7 @@ impl Figure {
     pub fn at_most(self, other: Figure) -> bool
         ensures { result ≡ nat_le (rank self) (rank other) }
     {
-        match self {
-            Figure::None => match other {
-                Figure::None => true,
-                Figure::Number(_) => false,
-            },
-            Figure::Number(cost) => match other {
-                Figure::None => true,
-                Figure::Number(bound) => cost.value <= bound.value,
-            },
-        }
+        self <= other
     }
 
     // Half of the figure, rounded down; half of none is none.
@@ -62,28 +54,35 @@ impl Figure {
     }
 }
 
-impl PartialEq for Figure {
-    ghost eq = { on rank nat_eq };
+impl Add for Figure {
+    type Output = Figure;
 
-    ghost laws = { Prim.search (comparing, rules) };
+    ghost add_gives = { λ left right sum. rank sum ≡ cut (rank left + rank right) };
 
-    fn eq(&self, other: &Figure) -> bool
-        ensures value { result ≡ on rank nat_eq self.now other.now }
-        ensures same { Decides result (self.now ≡ other.now) }
-    {
-        match *self {
-            Figure::None => match *other {
-                Figure::None => true,
-                Figure::Number(_) => false,
-            },
-            Figure::Number(cost) => match *other {
-                Figure::None => false,
-                Figure::Number(twin) => cost.value == twin.value,
-            },
+    // None if either is none or the sum exceeds the ceiling.
+    fn add(self, other: Figure) -> Figure {
+        match (self.number(), other.number()) {
+            (Some(left), Some(right)) => Figure::of(left + right),
+            _ => Figure::None,
         }
     }
 }
 
-impl Eq for Figure {
-    ghost laws = { Prim.search (comparing, rules) };
+impl fmt::Display for Figure {
+    ghost output = { λ figure. Some (printed figure) };
+
+    fn fmt<W: fmt::Write>(&self, f: &mut fmt::Formatter<W>) -> fmt::Result {
+        match self.number() {
+            Some(number) => write!(f, "{number}"),
+            None => write!(f, "none"),
+        }
+    }
 }
+
+// What the comparisons of figures say of their ranks. `==` tells whether two are one figure.
+pub fn comparisons()
+    ensures ranks { (f g : Figure) → ⟦<Figure as PartialEq>⟧.eq f g ≡ nat_eq (rank f) (rank g) }
+    ensures same { (f g : Figure) → Decides (⟦<Figure as PartialEq>⟧.eq f g) (f ≡ g) }
+    ensures smaller { (f g : Figure) → rank (ord_min ⟦<Figure as Ord>⟧.cmp f g) ≡ min (rank f) (rank g) }
+    ensures larger { (f g : Figure) → rank (ord_max ⟦<Figure as Ord>⟧.cmp f g) ≡ max (rank f) (rank g) }
+{}
