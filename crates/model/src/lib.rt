@@ -9,36 +9,26 @@ ghost use Rattle.model.specs.Rehearsals.{Verdicts};
 ghost use Rattle.model.specs.RunExamples.{WorkedRuns};
 
 // A rehearsal's answer is given exactly where what it says is so.
-pub fn verdicts() -> u8
+pub fn verdicts()
     ensures { Verdicts }
-{
-    0
-}
+{}
 
 // The worked examples of plans and of figures hold of the definitions.
-pub fn worked_examples() -> u8
+pub fn worked_examples()
     ensures { Worked × WorkedFigures }
-{
-    0
-}
+{}
 
 // What is just within the limits of a problem, and what is just beyond.
-pub fn worked_limits() -> u8
+pub fn worked_limits()
     ensures { Limits }
-{
-    0
-}
+{}
 
 // What can be reached, and verdicts by number.
-pub fn worked_verdicts() -> u8
+pub fn worked_verdicts()
     ensures { WorkedVerdicts }
-{
-    0
-}
+{}
 
 // A session's run in which the fact that fed two actions falls away and comes back.
-pub fn worked_runs() -> u8
+pub fn worked_runs()
     ensures { WorkedRuns }
-{
-    0
-}
+{}
