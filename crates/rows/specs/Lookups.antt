@@ -8,33 +8,34 @@
 --   linked   a row with one link more
 --   Alike    the same rows but for their links
 --   Hung     what writing and linking a row leaves
-use Rattle.std.specs.Prelude.{◌≡◌, ℕ, ◌+◌, ◌<◌, ◌≤◌, true, false, cond, ◌⊎◌, List, length, get_or, ◌≢◌, slice_index_or, slice_set}
+use Rattle.std.specs.Prelude.{◌≡◌, ℕ, ◌+◌, ◌<◌, ◌≤◌, cond, List, length, get_or, Some, None, Option, IfSome, ◌≢◌, slice_index_or, slice_set}
 use Rattle.model.specs.Strips.{State as Facts}
 use Rattle.strips.specs.Standing.{standing}
 use Rattle.rows.specs.declared.row.Row.{Row}
-use Rattle.rows.specs.declared.row.Seat.{Seat}
+use Rattle.rows.specs.declared.seat.Seat.{Seat}
+use Rattle.rows.specs.declared.seat.Seat.TheVariants.{Found, Under}
 use Rattle.rows.specs.Rows.{blank, bare}
 
--- the row at which a look-up of s goes on, or 0
-unfoldable pub link : Row → Facts → ℕ
+-- the row at which a look-up of s goes on, if it does
+unfoldable pub link : Row → Facts → Option ℕ
 link w s = cond (s w.fact) w.on w.off
 
 -- the state of row i
 abbrev pub state_at : List Row → ℕ → Facts
 state_at rows i = standing (get_or rows i blank).state
 
--- the row at which a look-up of s goes on from row i, or 0
-abbrev pub next : List Row → Facts → ℕ → ℕ
+-- the row at which a look-up of s goes on from row i, if it does
+abbrev pub next : List Row → Facts → ℕ → Option ℕ
 next rows s i = link (slice_index_or rows i blank) s
 
 -- from row i, a look-up of s comes to row k
 pub data Way (rows : List Row) (s : Facts) : ℕ → ℕ → Type 0 where
   here : (i : ℕ) → Way rows s i i
-  down : (i k : ℕ) → (state_at rows i ≢ s) → 0 < next rows s i → Way rows s (next rows s i) k → Way rows s i k
+  down : (i j k : ℕ) → (state_at rows i ≢ s) → next rows s i ≡ Some j → Way rows s j k → Way rows s i k
 
--- a link goes to a later row in use, or nowhere
-abbrev pub Later : ℕ → ℕ → ℕ → Type 0
-Later used i n = (n ≡ 0) ⊎ ((i < n) × (n < used))
+-- a link, if there is one, goes to a later row in use
+abbrev pub Later : ℕ → ℕ → Option ℕ → Type 0
+Later used i link = IfSome link (λ n. (i < n) × (n < used))
 
 -- each row in use is found by its state
 pub record Tree (rows : List Row) (used : ℕ) : Type 0 where
@@ -48,23 +49,32 @@ pub record Tree (rows : List Row) (used : ℕ) : Type 0 where
 pub record Seated (rows : List Row) (s : Facts) (i : ℕ) : Type 0 where
   pub way : Way rows s 0 i
   pub other : state_at rows i ≡ s → ⊥
-  pub free : next rows s i ≡ 0
+  pub free : next rows s i ≡ None
+
+-- row i is in use and has the state
+pub record Has (rows : List Row) (used : ℕ) (s : Facts) (i : ℕ) : Type 0 where
+  pub within : i < used
+  pub is : state_at rows i ≡ s
+
+-- no row in use has the state, and one of it belongs under row i
+pub record Missing (rows : List Row) (used : ℕ) (s : Facts) (i : ℕ) : Type 0 where
+  pub within : i < used
+  pub none : (k : ℕ) → k < used → state_at rows k ≢ s
+  pub seated : Seated rows s i
 
 -- the row in use that has the state, or, where there is none, the row under which it belongs
-pub record Looked (rows : List Row) (used : ℕ) (s : Facts) (r : Seat) : Type 0 where
-  pub within : r.at < used
-  pub found : r.found ≡ true → state_at rows r.at ≡ s
-  pub none : r.found ≡ false → (k : ℕ) → k < used → state_at rows k ≢ s
-  pub seated : r.found ≡ false → Seated rows s r.at
+abbrev pub Looked : List Row → ℕ → Facts → Seat → Type 0
+Looked rows used s (Found i) = Has rows used s i
+Looked rows used s (Under i) = Missing rows used s i
 
 -- no look-up goes on from the row
 abbrev pub Leaf : Row → Type 0
-Leaf w = (w.off ≡ 0) × (w.on ≡ 0)
+Leaf w = (w.off ≡ None) × (w.on ≡ None)
 
 -- the row with a link to n for look-ups of s, branching by the fact f
 abbrev pub linked : Row → Facts → ℕ → ℕ → Row
 linked w s f n =
-    record { state = w.state; steps = w.steps; estimate = w.estimate; from = w.from; action = w.action; opened = w.opened; fact = f; off = cond (s f) w.off n; on = cond (s f) n w.on }
+    record { state = w.state; steps = w.steps; estimate = w.estimate; from = w.from; action = w.action; opened = w.opened; fact = f; off = cond (s f) w.off (Some n); on = cond (s f) (Some n) w.on }
 
 -- the same rows but for their links
 pub record Alike (rows after : List Row) : Type 0 where

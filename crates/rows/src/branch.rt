@@ -8,17 +8,14 @@ use strips::state::State;
 
 // A fact that stands in one state only. Any fact would do; this one keeps look-ups short.
 fn differing(left: &State, right: &State) -> u8 {
-    for fact in 0..=255 {
-        if left.stands(fact) != right.stands(fact) {
-            return fact;
-        }
-    }
-    0
+    (0..=255)
+        .find(|&fact| left.stands(fact) != right.stands(fact))
+        .unwrap_or(0)
 }
 
 impl Row {
-    // The row at which a look-up of the state goes on, or 0.
-    pub(crate) fn next(&self, state: &State) -> u16
+    // The row at which a look-up of the state goes on.
+    pub(crate) fn next(&self, state: &State) -> Option<u16>
         ensures { result ≡ link self.now (standing state.now) }
     {
         if state.stands(self.fact) {
@@ -32,10 +29,9 @@ impl Row {
     pub(crate) fn branch(&self, state: &State) -> u8
         ensures { (result ≡ self.now.fact) ⊎ Leaf self.now }
     {
-        if self.off == 0 && self.on == 0 {
-            differing(&self.state, state)
-        } else {
-            self.fact
+        match (self.off, self.on) {
+            (None, None) => differing(&self.state, state),
+            _ => self.fact,
         }
     }
 
@@ -43,16 +39,17 @@ impl Row {
     pub(crate) fn link_to(self, state: &State, fact: u8, number: u16) -> Row
         ensures { result ≡ linked self (standing state.now) fact number }
     {
+        let link = Some(number);
         if state.stands(fact) {
             Row {
                 fact,
-                on: number,
+                on: link,
                 ..self
             }
         } else {
             Row {
                 fact,
-                off: number,
+                off: link,
                 ..self
             }
         }

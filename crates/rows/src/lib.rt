@@ -4,4 +4,6 @@
 mod branch;
 pub mod lookup;
 pub mod making;
+pub mod misplaced;
 pub mod row;
+pub mod seat;

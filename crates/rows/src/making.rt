@@ -1,6 +1,6 @@
 // Making rows.
 ghost use Rattle.std.specs.Prelude.{◌≡◌, []};
-ghost use Rattle.figure.specs.declared.figure.Figure.TheVariants.{None};
+ghost use Rattle.figure.specs.declared.figure.Figure.TheVariants.{None as Never};
 ghost use Rattle.model.specs.Strips.{these};
 ghost use Rattle.strips.specs.Standing.{standing};
 ghost use Rattle.rows.specs.Rows.{fresh};
@@ -22,14 +22,14 @@ impl Row {
             action,
             opened: false,
             fact: 0,
-            off: 0,
-            on: 0,
+            off: None,
+            on: None,
         }
     }
 
     // A row that no search has used.
     pub fn unused() -> Row
-        ensures { (standing result.state ≡ these []) × (result ≡ fresh result.state 0 None 0 0) }
+        ensures { (standing result.state ≡ these []) × (result ≡ fresh result.state 0 Never 0 0) }
     {
         Row::new(State::new(), 0, Figure::None, 0, 0)
     }
