@@ -1,7 +1,8 @@
 -- What an ask leaves. Assumes nothing.
-use Rattle.std.proofs.Common.{◌≡◌, ℕ, suc, ◌+◌, ◌<◌, ◌≤◌, min, List, [], ◌∷◌, length, take, drop, Some, sym, ap, ◌∙◌, subst, arith}
-use Rattle.std.specs.List.{slice_get}
-use Rattle.std.proofs.lemmas.List.{length-take-le}
+use Rattle.std.proofs.Common.{◌≡◌, ℕ, suc, ◌<◌, List, [], ◌∷◌, length, get_or, take, drop, Some, None, Option, MatchOption, sym, ap, ◌∙◌, subst}
+use Rattle.std.proofs.Math.Seq.{take-length}
+use Rattle.std.proofs.lemmas.Option.{slice_get-get_or}
+use Rattle.std.specs.List.{AllWithin, HoldsAt}
 use Rattle.figure.specs.declared.figure.Figure.{Figure}
 use Rattle.figure.specs.Ranks.{rank}
 use Rattle.model.specs.Strips.{State as Facts}
@@ -9,29 +10,13 @@ use Rattle.strips.specs.declared.state.State.{State}
 use Rattle.strips.specs.Standing.{standing}
 use Rattle.estimator.specs.declared.keeping.Kept.{Kept}
 use Rattle.estimator.specs.Keeps.{entry, Lacks, Placed, moved, Again, FirstTime, Right}
-use Rattle.estimator.proofs.Fronts.{every_append, every_take, every_drop, every_nth, take_moved, take_front, take_take, nth_take}
+use Rattle.estimator.proofs.Fronts.{every_append, every_take, every_drop, every_nth, every_below, there}
 
-module _ (slots after : List Kept) (count at : ℕ) (state : State) where
-  pub again : (x : Kept) → count ≤ length slots → at < count → Placed slots (standing state) at → slice_get slots at ≡ Some x → after ≡ x ∷ moved slots at → Again (take count slots) state x.figure (take count after)
-  again x le lt p is e =
-      let same : p.one ≡ x = (let h = p.is in cc) in
-      let less : min at count ≡ at = omega arith in
-      record {
-        at = at;
-        within = omega (arith, length-take-le count slots le);
-        placed = record { one = p.one; is = nth_take at count slots lt ∙ p.is; same = p.same; first = subst (λ l. Lacks l (standing state)) (sym (take_take at count slots ∙ ap (λ n. take n slots) less)) p.first };
-        figure_is = ap (λ w. w.figure) same;
-        now_kept = ap (take count) e ∙ take_moved at count slots x lt le ∙ ap (λ w. w ∷ moved (take count slots) at) (sym same);
-      }
-
-  pub first_time : (f : Figure) → length slots ≡ 16 → count ≤ 16 → at ≡ min count 15 → Lacks (take count slots) (standing state) → after ≡ entry state f ∷ moved slots at → FirstTime (take count slots) state f (take (at + 1) after)
-  first_time f long few is new e =
-      let more : at + 1 ≡ suc at = omega arith in
-      let low : min 15 count ≡ at = omega arith in
-      record {
-        new = new;
-        now_kept = ap (λ n. take n after) more ∙ ap (take (suc at)) e ∙ take_front at slots (drop (suc at) slots) (entry state f) (omega arith) ∙ ap (λ l. entry state f ∷ l) (sym (take_take 15 count slots ∙ ap (λ n. take n slots) low));
-      }
+pub again : (l after : List Kept) (at : ℕ) (state : State) (x : Kept) → at < length l → Placed l (standing state) at → x ≡ get_or l at x → after ≡ x ∷ moved l at → Again l state x.figure after
+again l after at state x lt p is e =
+    let read = slice_get-get_or l at x lt in
+    let same : p.one ≡ x = (let h = p.is in cc) in
+    record { at = at; within = lt; placed = p; figure_is = ap (λ w. w.figure) same; now_kept = e ∙ ap (λ w. w ∷ moved l at) (sym same) }
 
 module _ (v : Facts → ℕ) (before after : List Kept) (state : State) (f : Figure) (right : Right v before) where
   abbrev Good : Kept → Type 0
@@ -51,3 +36,12 @@ module _ (v : Facts → ℕ) (before after : List Kept) (state : State) (f : Fig
 pub right_same : (v w : Facts → ℕ) (l : List Kept) → ((s : Facts) → w s ≡ v s) → Right v l → Right w l
 right_same v w [] e h = tt
 right_same v w (x ∷ l) e h = (h.0 ∙ sym (e (standing x.state)), right_same v w l e h.1)
+
+-- the first place, told by what holds there and before it
+pub place_of : (l : List Kept) (s : Facts) (found : Option ℕ) → MatchOption found (AllWithin (λ w. standing w.state ≡ s → ⊥) l 0 (length l)) (λ i. (i < length l) × HoldsAt (λ w. standing w.state ≡ s) l i × AllWithin (λ w. standing w.state ≡ s → ⊥) l 0 i) → MatchOption found (Lacks l s) (λ i. (i < length l) × Placed l s i)
+place_of l s None h = subst (λ m. Lacks m s) (take-length l) (every_below (λ w. standing w.state ≡ s → ⊥) (length l) l h)
+place_of l s (Some i) h =
+    let (one, is) = there l i h.0 in
+    let read = slice_get-get_or l i one h.0 in
+    let same : get_or l i one ≡ one = cc in
+    (h.0, record { one = one; is = is; same = sym (ap (λ w. standing w.state) same) ∙ h.1 one; first = every_below (λ w. standing w.state ≡ s → ⊥) i l h.2 })

@@ -1,6 +1,6 @@
--- Lists whose members are moved to the front. Assumes nothing.
-use Rattle.std.proofs.Common.{◌≡◌, ℕ, zero, suc, ◌+◌, ◌<◌, ◌≤◌, min, List, [], ◌∷◌, ◌++◌, length, get_or, take, drop, Some, refl, ap, ◌∙◌, subst, arith}
-use Rattle.std.specs.List.{AllByRecursion, slice_get}
+-- What holds of every member of a list. Assumes nothing.
+use Rattle.std.proofs.Common.{◌≡◌, ℕ, zero, suc, ◌<◌, List, [], ◌∷◌, ◌++◌, length, take, drop, Some, refl, subst, arith}
+use Rattle.std.specs.List.{AllByRecursion, AllWithin, slice_get}
 
 module _ {X : Type 0} (P : X → Type 0) where
   pub every_append : (xs ys : List X) → AllByRecursion P xs → AllByRecursion P ys → AllByRecursion P (xs ++ ys)
@@ -22,43 +22,14 @@ module _ {X : Type 0} (P : X → Type 0) where
   every_nth (y ∷ xs) zero x e h = subst P (let z : y ≡ x = cc in z) h.0
   every_nth (y ∷ xs) (suc i) x e h = every_nth xs i x e h.1
 
-  -- one more of the first
-  pub every_more : (xs : List X) (i : ℕ) (d : X) → i < length xs → AllByRecursion P (take i xs) → P (get_or xs i d) → AllByRecursion P (take (i + 1) xs)
-  every_more xs i d lt h x = let e : suc i ≡ i + 1 = omega arith in subst (λ n. AllByRecursion P (take n xs)) e (go i xs lt h x) where
-    go : (i : ℕ) (xs : List X) → i < length xs → AllByRecursion P (take i xs) → P (get_or xs i d) → AllByRecursion P (take (suc i) xs)
-    go i [] lt h x = tt
-    go zero (y ∷ xs) lt h x = (x, tt)
-    go (suc i) (y ∷ xs) lt h x = (h.0, go i xs (omega arith) h.1 x)
+  -- what holds at each of the first i
+  pub every_below : (i : ℕ) (xs : List X) → AllWithin P xs 0 i → AllByRecursion P (take i xs)
+  every_below zero xs h = tt
+  every_below (suc i) [] h = tt
+  every_below (suc i) (x ∷ xs) h = (h 0 x (omega arith) (omega arith), every_below i xs (λ k d le lt. h (suc k) d (omega arith) (omega arith)))
 
--- the first n of a list whose member at i was moved to the front
-pub take_moved : {X : Type 0} (i n : ℕ) (l : List X) (x : X) → i < n → n ≤ length l → take n (x ∷ (take i l ++ drop (suc i) l)) ≡ x ∷ (take i (take n l) ++ drop (suc i) (take n l))
-take_moved i zero l x lt le = absurd (omega arith)
-take_moved i (suc n) [] x lt le = absurd (omega arith)
-take_moved zero (suc n) (y ∷ l) x lt le = refl
-take_moved (suc i) (suc n) (y ∷ l) x lt le = ap (λ z. x ∷ z) (take_moved i n l y (omega arith) (omega arith))
-
--- a new one in front: the first i stay
-pub take_front : {X : Type 0} (i : ℕ) (l m : List X) (x : X) → i ≤ length l → take (suc i) (x ∷ (take i l ++ m)) ≡ x ∷ take i l
-take_front i l m x le = ap (λ z. x ∷ z) (go i l le) where
-  go : (i : ℕ) (l : List _) → i ≤ length l → take i (take i l ++ m) ≡ take i l
-  go zero l le = refl
-  go (suc i) [] le = absurd (omega arith)
-  go (suc i) (y ∷ l) le = ap (λ z. y ∷ z) (go i l (omega arith))
-
-pub take_take : {X : Type 0} (i n : ℕ) (l : List X) → take i (take n l) ≡ take (min i n) l
-take_take zero n l = ap (λ k. take k l) (let z : 0 ≡ min 0 n = omega arith in z)
-take_take (suc i) zero l = ap (λ k. take k l) (let z : 0 ≡ min (suc i) 0 = omega arith in z)
-take_take {X} (suc i) (suc n) [] = let e : suc (min i n) ≡ min (suc i) (suc n) = omega arith in ap {A = ℕ} {B = List X} (λ k. take k []) e
-take_take {X} (suc i) (suc n) (y ∷ l) = let e : suc (min i n) ≡ min (suc i) (suc n) = omega arith in ap (λ z. y ∷ z) (take_take i n l) ∙ ap {A = ℕ} {B = List X} (λ k. take k (y ∷ l)) e
-
-pub nth_take : {X : Type 0} (i n : ℕ) (l : List X) → i < n → slice_get (take n l) i ≡ slice_get l i
-nth_take i zero l lt = absurd (omega arith)
-nth_take i (suc n) [] lt = refl
-nth_take zero (suc n) (y ∷ l) lt = refl
-nth_take (suc i) (suc n) (y ∷ l) lt = nth_take i n l (omega arith)
-
--- a read within the list is the same whatever the default
-pub get_d_any : {X : Type 0} (l : List X) (i : ℕ) (d e : X) → i < length l → get_or l i d ≡ get_or l i e
-get_d_any [] i d e lt = absurd (omega arith)
-get_d_any (y ∷ l) zero d e lt = refl
-get_d_any (y ∷ l) (suc i) d e lt = get_d_any l i d e (omega arith)
+-- there is a member at each place below the length
+pub there : {X : Type 0} (xs : List X) (i : ℕ) → i < length xs → (x : X) × (slice_get xs i ≡ Some x)
+there [] i lt = absurd (omega arith)
+there (x ∷ xs) zero lt = (x, refl)
+there (x ∷ xs) (suc i) lt = there xs i (omega arith)

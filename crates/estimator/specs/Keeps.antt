@@ -19,7 +19,7 @@ use Rattle.estimator.specs.declared.keeping.Keeping.{Keeping}
 
 -- the states kept, the latest first, with their figures
 abbrev pub kept : {E : Type 0} → Keeping E → List Kept
-kept k = take k.count k.slots
+kept k = k.latest.items
 
 -- a state with its figure
 abbrev pub entry : State → Figure → Kept

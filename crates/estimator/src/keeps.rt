@@ -7,7 +7,8 @@ ghost use Rattle.estimator.specs.Keeps.{kept, Asked, Agreeing};
 
 use crate::estimator::Estimator;
 use crate::keeping::{Keeping, Kept};
-use crate::places::{place, put_first};
+use crate::places::place;
+use arrayvec::ArrayVec;
 use figure::figure::Figure;
 use strips::state::State;
 use strips::task::Task;
@@ -17,15 +18,8 @@ impl<E> Keeping<E> {
     pub fn new(inner: E) -> Keeping<E>
         ensures { (result.inner ≡ inner) × (kept result ≡ []) }
     {
-        let empty = Kept {
-            state: State::new(),
-            figure: Figure::None,
-        };
-        Keeping {
-            inner,
-            slots: [empty; 16],
-            count: 0,
-        }
+        let latest = ArrayVec::new();
+        Keeping { inner, latest }
     }
 }
 
@@ -48,22 +42,20 @@ impl<E: Estimator> Estimator for Keeping<E> {
         ensures leaves { Leaves (λ k. E.Estimator.suits k.inner) (λ k. E.Estimator.value k.inner) (Agreeing E.Estimator.agrees E.Estimator.value) self.old self.new }
         ensures keeps { Asked (kept self.old) state.now result (kept self.new) }
     {
-        if let Some(at) = place(&self.slots, self.count, state) {
-            let old = self.slots[at];
-            put_first(&mut self.slots, at, old);
-            return old.figure;
+        if let Some(at) = place(&self.latest, state) {
+            let kept = self.latest.remove(at);
+            self.latest.insert(0, kept);
+            return kept.figure;
         }
         let figure = self.inner.estimate(state);
-        let at = self.count.min(15);
-        put_first(
-            &mut self.slots,
-            at,
+        self.latest.truncate(15);
+        self.latest.insert(
+            0,
             Kept {
                 state: *state,
                 figure,
             },
         );
-        self.count = at + 1;
         figure
     }
 }

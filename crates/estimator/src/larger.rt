@@ -24,13 +24,6 @@ impl<P, Q> Larger<P, Q> {
     }
 }
 
-// The larger of two figures.
-fn larger_of(left: Figure, right: Figure) -> Figure
-    ensures { rank result ≡ max (rank left) (rank right) }
-{
-    if left.at_most(right) { right } else { left }
-}
-
 impl<P: Estimator, Q: Estimator> Estimator for Larger<P, Q> {
     ghost suits = { λ e p. P.Estimator.suits e.first p × Q.Estimator.suits e.second p };
 
@@ -44,16 +37,12 @@ impl<P: Estimator, Q: Estimator> Estimator for Larger<P, Q> {
         record { number = omega (arith, a.number, b.number); low = omega (arith, a.low, b.low) } };
 
     fn fits(&self, task: &Task) -> bool {
-        if self.first.fits(task) {
-            self.second.fits(task)
-        } else {
-            false
-        }
+        self.first.fits(task) && self.second.fits(task)
     }
 
     fn estimate(&mut self, state: &State) -> Figure {
         let left = self.first.estimate(state);
         let right = self.second.estimate(state);
-        larger_of(left, right)
+        left.max(right)
     }
 }

@@ -1,22 +1,12 @@
-use Rattle.std.proofs.Common.{◌≡◌, ◌<◌, length, take, subst, arith}
-use Rattle.std.proofs.lemmas.Bool.Decides.{not_from_Decides}
-use Rattle.std.proofs.lemmas.Option.{slice_get-get_or}
+use Rattle.std.proofs.Common.{◌≡◌, rules}
+use Rattle.std.proofs.lemmas.Iterator.{IsFirst-from_position, YieldsList-from_slice}
+use borrow.Author.Tests.{tests}
 use Rattle.strips.specs.Standing.{standing}
-use Rattle.estimator.specs.Keeps.{Lacks}
-use Rattle.estimator.proofs.Fronts.{every_more}
+use Rattle.estimator.proofs.Asks.{place_of}
 use Rattle.estimator.proofs.places.place.Goals as goal
-
-pub loop-i-preserved : goal.loop-i-preserved
-loop-i-preserved c =
-    let lt : c.loop-i.i < length c.args.slots.now = omega (arith, c.loop-i-test.true, c.requires) in
-    every_more (λ w. standing w.state ≡ standing c.args.state.now → ⊥) c.args.slots.now c.loop-i.i c.index-slots-i.result lt c.loop-i.invariant (not_from_Decides _ c.eq.ensures.same c.if-eq.false)
-
-pub returns-then-eq : goal.returns-then-eq
-returns-then-eq c =
-    let lt : c.loop-i.i < length c.args.slots.now = omega (arith, c.loop-i-test.true, c.requires) in
-    (c.loop-i-test.true, record { one = _; is = slice_get-get_or c.args.slots.now c.loop-i.i c.index-slots-i.result lt; same = c.eq.ensures.same.0 c.if-eq.true; first = c.loop-i.invariant })
 
 pub returns : goal.returns
 returns c =
-    let e : c.loop-i.i ≡ c.args.count = omega (arith, c.loop-i-test.false, c.loop-i.auto.i-end) in
-    subst (λ n. Lacks (take n c.args.slots.now) (standing c.args.state.now)) e c.loop-i.invariant
+    let s = standing c.args.state.now in
+    place_of c.args.kept.now s c.position.result
+    (IsFirst-from_position _ _ c.position.result (λ w. standing w.state ≡ s) (λ w. standing w.state ≡ s → ⊥) c.position.ensures.ran (YieldsList-from_slice c.args.kept.now c.iter.ensures.rest) (λ x q k. search (rules, tests)) (λ x q k. search (rules, tests)))
