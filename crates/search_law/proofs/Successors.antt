@@ -6,9 +6,8 @@ use Rattle.strips.specs.declared.state.State.{State as Words}
 use Rattle.strips.specs.Standing.{standing}
 use Rattle.queue.specs.declared.key.Pair.{Pair}
 use Rattle.rows.specs.declared.row.Row.{Row}
-use Rattle.rows.specs.declared.row.Seat.{Seat}
 use Rattle.rows.specs.Rows.{blank}
-use Rattle.rows.specs.Lookups.{Looked, Numbers}
+use Rattle.rows.specs.Lookups.{Missing, Numbers}
 use Rattle.search_law.specs.Views.{view, key_of}
 use Rattle.search_law.specs.Boards.{board, enqueued, better_row, Turning, Moves, Shortened, Added}
 use Rattle.search_law.proofs.Writes.{moves_refl}
@@ -46,10 +45,10 @@ module _ (p : Problem) (s : State) (v : State → ℕ) (A : Type 0) (rows : List
         subst P (sym h.0) (subst Q (sym h.1) (same_turn p s v A rows t used i a m may j (standing next) is lt same le, moves_refl p s v A rows t used m.sized.tree.fits))
 
   -- it had none, and there was room
-  pub added : (seat : Seat) → Looked rows used (standing next) seat → seat.found ≡ false → used < length rows → (after : List Row) (u : List (Option Pair)) → Added v A i a seat.at used next rows after t u → Turning p s (board after u (used + 1)) i (a + 1) × Moves p s v A (board rows t used) (board after u (used + 1))
-  added seat look none lt after u h =
-      let nums : Numbers rows seat.at used = record { earlier = look.within; within = lt; small = omega (arith, m.sized.small) } in
+  pub added : (under : ℕ) → Missing rows used (standing next) under → used < length rows → (after : List Row) (u : List (Option Pair)) → Added v A i a under used next rows after t u → Turning p s (board after u (used + 1)) i (a + 1) × Moves p s v A (board rows t used) (board after u (used + 1))
+  added under look lt after u h =
+      let nums : Numbers rows under used = record { earlier = look.within; within = lt; small = omega (arith, m.sized.small) } in
       let w = h.hung.fitting nums in
-      let tree = w.tree m.sized.tree (look.seated none) in
+      let tree = w.tree m.sized.tree look.seated in
       let Q : List (Option Pair) → Type 0 = λ y. Turning p s (board after y (used + 1)) i (a + 1) × Moves p s v A (board rows t used) (board after y (used + 1)) in
-      subst Q (sym h.queue_is) (new_turn p s v A rows t used i a m may next h.figure is (look.none none) lt seat.at after w tree, new_moves p s v A rows t used i a m may next h.figure is (look.none none) lt seat.at after w tree h.right)
+      subst Q (sym h.queue_is) (new_turn p s v A rows t used i a m may next h.figure is look.none lt under after w tree, new_moves p s v A rows t used i a m may next h.figure is look.none lt under after w tree h.right)

@@ -24,8 +24,7 @@ use Rattle.search_law.specs.Boards.{board, Standing, Turning}
 use Rattle.search_law.proofs.Keys.{key_first, key_low, some_of, pair_first}
 
 abbrev pub opened_row : Row → Row
-opened_row w =
-    record { state = w.state; steps = w.steps; estimate = w.estimate; from = w.from; action = w.action; opened = true; fact = w.fact; off = w.off; on = w.on }
+opened_row w = record w { opened = true }
 
 module _ (p : Problem) (s : State) (rows : List Row) (t : List (Option Pair)) (used i : ℕ) (k : Pair) (m : Standing p s (board rows t used)) (held : at t i ≡ Some k) where
   pub taken_within : i < used

@@ -6,11 +6,15 @@ use Rattle.rows.specs.declared.row.Row.{Row}
 use Rattle.rows.specs.Rows.{blank}
 use Rattle.search_theory.specs.Rows.{Recorded}
 use Rattle.search_law.specs.Views.{view}
-use Rattle.search_law.specs.Boards.{Depth, way_back}
+use Rattle.search_law.specs.Boards.{Rooted, Depth, way_back}
 
 pub depth_pos : (rows : List Row) (n i : ℕ) → Depth rows n i → 0 < i → 0 < n
 depth_pos rows zero i d pos = absurd (omega (arith, d))
 depth_pos rows (suc n) i d pos = omega arith
+
+pub depth_on : (rows : List Row) (n i : ℕ) → Depth rows n i → 0 < n → 0 < i
+depth_on rows zero i d pos = absurd (omega (arith, pos))
+depth_on rows (suc n) i d pos = d.0
 
 pub depth_less : (rows : List Row) (n i : ℕ) → Depth rows n i → 0 < i → Depth rows (n - 1) (get_or rows i blank).from
 depth_less rows zero i d pos = absurd (omega (arith, d))
@@ -43,5 +47,6 @@ back_plan p s rows used b (suc n) i rest lt d plan =
     let on = subst (λ u. Plan p u rest) (sym c.is) plan in
     back_plan p s rows used b n (get_or rows i blank).from ((get_or rows i blank).action ∷ rest) c.within d.1 ((c.may, on.0), on.1)
 
-pub came_facts : (p : Problem) (s : State) (rows : List Row) (used : ℕ) → Recorded p s (view rows used) → (k : ℕ) → 0 < k → k < used → ((get_or rows k blank).from < used) × ((get_or rows (get_or rows k blank).from blank).steps < (get_or rows k blank).steps)
+-- every way back leads to the first row
+pub came_facts : (p : Problem) (s : State) (rows : List Row) (used : ℕ) → Recorded p s (view rows used) → Rooted rows used
 came_facts p s rows used b k pos lt = let c = b.came k pos lt in (c.within, omega (arith, c.less))

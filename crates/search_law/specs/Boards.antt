@@ -7,6 +7,7 @@
 --   Overfull   a successor has no row, and every row is taken
 --   Moves      what any number of steps leaves
 --   Started, Shortened, Added   what recording the start, a shorter way and a new state writes
+--   Rooted     each row in use but the first came from one with fewer steps
 --   Depth      how many rows a row is away from the first
 --   way_back   the actions that lead from the first row to a row
 --   Ran        what a search has done when it ends
@@ -90,8 +91,7 @@ first rows = standing (get_or rows 0 blank).state
 
 -- the row j with a shorter way, by action a from row i
 abbrev pub better_row : List Row → ℕ → ℕ → ℕ → Row
-better_row rows i a j =
-    record { state = (get_or rows j blank).state; steps = (get_or rows i blank).steps + 1; estimate = (get_or rows j blank).estimate; from = i; action = a; opened = (get_or rows j blank).opened; fact = (get_or rows j blank).fact; off = (get_or rows j blank).off; on = (get_or rows j blank).on }
+better_row rows i a j = record (get_or rows j blank) { steps = (get_or rows i blank).steps + 1; from = i; action = a }
 
 -- a new row, by action a from row i
 abbrev pub new_row : List Row → ℕ → ℕ → Words → Figure → Row
@@ -117,6 +117,10 @@ pub record Added (v : State → ℕ) (Agrees : Type 0) (i a under number : ℕ) 
   pub right : Agrees → rank figure ≡ v (standing next)
   pub hung : Hung rows under number (new_row rows i a next figure) after
   pub queue_is : u ≡ enqueued t number (key_of ((get_or rows i blank).steps + 1) figure)
+
+-- each row in use but the first came from one in use, with fewer steps
+abbrev pub Rooted : List Row → ℕ → Type 0
+Rooted rows used = (k : ℕ) → 0 < k → k < used → ((get_or rows k blank).from < used) × ((get_or rows (get_or rows k blank).from blank).steps < (get_or rows k blank).steps)
 
 -- row i is n rows away from the first
 abbrev pub Depth : List Row → ℕ → ℕ → Type 0

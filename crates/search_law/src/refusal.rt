@@ -4,7 +4,7 @@ ghost use Rattle.search_law.specs.Numbered.{SmallestTold};
 ghost use Rattle.search_law.specs.Refusals.{number_of};
 
 // A search that the calling program should not have asked for.
-#[derive(Clone, Copy)]
+#[derive(Clone, Copy, Debug, PartialEq, Eq)]
 pub enum SearchRefusal {
     // The start state has a fact that the task lacks; this is the first.
     StateBeyond { fact: u8 },
@@ -22,7 +22,7 @@ impl SearchRefusal {
         ensures { result ≡ number_of self }
     {
         match self {
-            SearchRefusal::StateBeyond { fact: _ } => 8,
+            SearchRefusal::StateBeyond { .. } => 8,
             SearchRefusal::QueueUnfit => 11,
             SearchRefusal::RowsUnfit => 15,
             SearchRefusal::EstimatorUnfit => 16,
@@ -31,8 +31,6 @@ impl SearchRefusal {
 }
 
 // Of all that stands in the way of a search, the refusal with the smallest number is given, with its values.
-pub fn smallest_told() -> u8
+pub fn smallest_told()
     ensures { SmallestTold }
-{
-    0
-}
+{}
