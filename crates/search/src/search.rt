@@ -1,13 +1,13 @@
 // The search.
-ghost use Rattle.std.specs.Prelude.{◌≡◌, MatchOption, OnErr};
+ghost use Rattle.std.specs.Prelude.{◌≡◌, MatchResult, OnErr};
 ghost use Rattle.strips.specs.Standing.{standing};
 ghost use Rattle.strips.specs.Tasks.{problem};
 ghost use Rattle.estimator.specs.Meanings.{Leaves};
 ghost use Rattle.search_law.specs.Refusals.{memory, Accepted, Refused};
 ghost use Rattle.search_law.specs.Law.{Searched};
 
+use crate::board::Board;
 use crate::queueing::empty;
-use crate::run::{begin, run};
 use estimator::estimator::Estimator;
 use queue::key::Pair;
 use queue::queue::Queue;
@@ -17,31 +17,30 @@ use search_law::refusal::SearchRefusal;
 use strips::state::State;
 use strips::task::Task;
 
-// Why a search is refused, if it is: of several reasons the one of the smallest number.
-fn refusal<E: Estimator, Q: Queue<Key = Pair>>(
+// Whether anything is in the way of a search: of several refusals the one of the smallest number.
+fn accept<E: Estimator, Q: Queue<Key = Pair>>(
     task: &Task,
     start: &State,
     est: &E,
     queue: &Q,
     rows: &[Row],
     steps: &[u16],
-) -> Option<SearchRefusal>
-    ensures { MatchOption result (Accepted (problem task.now) (standing start.now) (E.Estimator.suits est.now (problem task.now)) (memory rows.now steps.now (Q.Queue.pairs queue.now))) (Refused (problem task.now) (standing start.now) (E.Estimator.suits est.now (problem task.now)) (memory rows.now steps.now (Q.Queue.pairs queue.now))) }
+) -> Result<(), SearchRefusal>
+    ensures { MatchResult result (λ _. Accepted (problem task.now) (standing start.now) (E.Estimator.suits est.now (problem task.now)) (memory rows.now steps.now (Q.Queue.pairs queue.now))) (Refused (problem task.now) (standing start.now) (E.Estimator.suits est.now (problem task.now)) (memory rows.now steps.now (Q.Queue.pairs queue.now))) }
 {
     if let Some(fact) = start.first_from(task.facts()) {
-        return Some(SearchRefusal::StateBeyond { fact });
+        return Err(SearchRefusal::StateBeyond { fact });
     }
     if !queue.is_empty() || queue.capacity() < rows.len() {
-        return Some(SearchRefusal::QueueUnfit);
+        return Err(SearchRefusal::QueueUnfit);
     }
-    if rows.len() == 0 || rows.len() > 65535 || steps.len() < rows.len() {
-        return Some(SearchRefusal::RowsUnfit);
+    if rows.is_empty() || rows.len() > 65535 || steps.len() < rows.len() {
+        return Err(SearchRefusal::RowsUnfit);
     }
-    if est.fits(task) {
-        None
-    } else {
-        Some(SearchRefusal::EstimatorUnfit)
+    if !est.fits(task) {
+        return Err(SearchRefusal::EstimatorUnfit);
     }
+    Ok(())
 }
 
 // Looks for a shortest plan from the start state. It ends over any estimator and any queue; what it finds is a plan whatever they do,
@@ -59,11 +58,16 @@ pub fn search<E: Estimator, Q: Queue<Key = Pair>>(
     ensures leaves { Leaves E.Estimator.suits E.Estimator.value E.Estimator.agrees est.old est.new }
     ensures keeps { Q.Queue.sound queue.old → Q.Queue.sound queue.new }
 {
-    if let Some(refusal) = refusal(task, start, est, queue, rows, steps) {
-        return Err(refusal);
-    }
-    begin(start, est, queue, rows);
-    let outcome = run(task, est, queue, rows, steps);
-    empty(queue);
+    accept(task, start, est, queue, rows, steps)?;
+    let mut board = Board {
+        task,
+        est,
+        queue,
+        rows,
+        used: 0,
+    };
+    board.begin(start);
+    let outcome = board.run(steps);
+    empty(board.queue);
     Ok(outcome)
 }
