@@ -35,10 +35,7 @@ fn goal_figure_at<Q: Queue<Key = Figure>>(
 {
     follow(session, state);
     let _ = session.settle(docket);
-    match session.goal_figure() {
-        Ok(figure) => figure,
-        Err(_) => Figure::None,
-    }
+    session.goal_figure().unwrap_or(Figure::None)
 }
 
 impl<Q: Queue<Key = Figure>> Estimator for SessionEstimator<Q> {

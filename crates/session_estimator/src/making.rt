@@ -17,15 +17,14 @@ impl<Q> SessionEstimator<Q> {
         ensures { MatchResult result (λ e. e.session ≡ session) (λ s. s ≡ session) }
     {
         let rows = 2 * session.task().item_count();
-        let mut docket = Vec::new(heap);
         let blank = DocketRow {
             item: 0,
             before: Figure::None,
             after: Figure::None,
         };
-        if docket.resize(rows, blank).is_err() {
+        let Ok(docket) = vec![in heap; blank; rows] else {
             return Err(session);
-        }
+        };
         Ok(SessionEstimator { session, docket })
     }
 
