@@ -37,22 +37,20 @@ pub fn work_and_search_by_session<Q: Queue<Key = Figure>, P: Queue<Key = Pair>>(
     ensures law { IfOk result (λ w. OwnLaw (problem task) max_rule (map call_of calls.now) (map reply_of w.answers.items) (standing start.now) (Q.Queue.sound queue) (P.Queue.sound frontier.old) (memory rows.old steps.old (P.Queue.pairs frontier.old)) (memory rows.new steps.new (P.Queue.pairs frontier.new)) w.outcome) }
     ensures halted { IfErr result (Halting Q.Queue.sound Q.Queue.pairs task queue (map call_of calls.now)) }
 {
-    match Session::open_and_work(heap, task, MaxRule, queue, calls) {
-        Err(unopened) => Err(Halted::Unopened(unopened)),
-        Ok((session, answers)) => match session.task().twin(heap) {
-            Err(_) => Err(Halted::NoMemory(session, answers)),
-            Ok(twin) => match SessionEstimator::new(heap, session) {
-                Err(session) => Err(Halted::NoMemory(session, answers)),
-                Ok(made) => {
-                    let mut est = made;
-                    let outcome = search(&twin, start, &mut est, frontier, rows, steps);
-                    Ok(Worked {
-                        session: est.into_session(),
-                        answers,
-                        outcome,
-                    })
-                }
-            },
-        },
-    }
+    let (session, answers) = Session::open_and_work(heap, task, MaxRule, queue, calls).map_err(
+        Halted::Unopened,
+    )?;
+    let Ok(twin) = session.task().twin(heap) else {
+        return Err(Halted::NoMemory(session, answers));
+    };
+    let mut est = match SessionEstimator::new(heap, session) {
+        Ok(est) => est,
+        Err(session) => return Err(Halted::NoMemory(session, answers)),
+    };
+    let outcome = search(&twin, start, &mut est, frontier, rows, steps);
+    Ok(Worked {
+        session: est.into_session(),
+        answers,
+        outcome,
+    })
 }

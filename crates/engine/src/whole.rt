@@ -27,6 +27,7 @@ use strips::task::Task;
 
 // Opens a session on a task, a rule and a queue and works the calls; then searches a plan of the sought task from the start state.
 // An opening that is refused, or wants memory, gives all back, and nothing is searched.
+// The loans stand apart, since the contract says of each what it holds afterwards, which it could not of a struct that takes them.
 pub fn work_and_search<R: CostRule, Q: Queue<Key = Figure>, E: Estimator, P: Queue<Key = Pair>>(
     heap: Global,
     task: Task,
@@ -45,15 +46,11 @@ pub fn work_and_search<R: CostRule, Q: Queue<Key = Figure>, E: Estimator, P: Que
     ensures estimator { OnOk result (Leaves E.Estimator.suits E.Estimator.value E.Estimator.agrees est.old est.new) }
     ensures untouched { OnErr result ((est.new ≡ est.old) × (frontier.new ≡ frontier.old) × (rows.new ≡ rows.old) × (steps.new ≡ steps.old)) }
 {
-    match Session::open_and_work(heap, task, rule, queue, calls) {
-        Ok((session, answers)) => {
-            let outcome = search(sought, start, est, frontier, rows, steps);
-            Ok(Worked {
-                session,
-                answers,
-                outcome,
-            })
-        }
-        Err(unopened) => Err(unopened),
-    }
+    let (session, answers) = Session::open_and_work(heap, task, rule, queue, calls)?;
+    let outcome = search(sought, start, est, frontier, rows, steps);
+    Ok(Worked {
+        session,
+        answers,
+        outcome,
+    })
 }
