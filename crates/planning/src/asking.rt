@@ -24,11 +24,8 @@ pub(crate) fn told_figure(answers: &[Answer]) -> Figure
     requires { SomeTold answers.now }
     ensures { Told answers.now result }
 {
-    let Some(last) = answers.last() else {
-        unreachable()
-    };
-    match last {
-        Answer::Is(figure) => *figure,
+    match answers {
+        [.., Answer::Is(figure)] => *figure,
         _ => unreachable(),
     }
 }

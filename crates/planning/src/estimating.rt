@@ -35,14 +35,10 @@ pub(crate) fn estimator_of(
 {
     let own = task.twin(heap)?;
     let queue: HeapQueue<Figure> = HeapQueue::new(heap, own.item_count())?;
-    match Session::open_and_work(heap, own, MaxRule, queue, calls) {
-        Err(unopened) => Err(wanting(unopened)),
-        Ok((session, answers)) => {
-            let max = told_figure(answers.as_slice());
-            match SessionEstimator::new(heap, session) {
-                Err(_) => Err(AllocError),
-                Ok(estimator) => Ok((max, Keeping::new(Larger::new(estimator, Blind)))),
-            }
-        }
-    }
+    let (session, answers) = Session::open_and_work(heap, own, MaxRule, queue, calls).map_err(
+        wanting,
+    )?;
+    let max = told_figure(answers.as_slice());
+    let estimator = SessionEstimator::new(heap, session).map_err(|_| AllocError)?;
+    Ok((max, Keeping::new(Larger::new(estimator, Blind))))
 }

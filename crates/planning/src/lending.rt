@@ -17,10 +17,8 @@ pub(crate) fn lend(heap: Global) -> Result<Lent, AllocError>
     ensures { IfOk result Lendable }
 {
     let frontier: HeapQueue<Pair> = HeapQueue::new(heap, ROWS)?;
-    let mut rows = Vec::new(heap);
-    rows.resize(ROWS, Row::unused())?;
-    let mut steps = Vec::new(heap);
-    steps.resize(ROWS, 0u16)?;
+    let rows = vec![in heap; Row::unused(); ROWS]?;
+    let steps = vec![in heap; 0; ROWS]?;
     Ok(Lent {
         frontier,
         rows,

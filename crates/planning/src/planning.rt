@@ -10,7 +10,7 @@ use crate::searching::plan_over;
 use std::alloc::{AllocError, Global};
 use strips::task::Task;
 
-// Both goal figures of the start, and a shortest plan from there, searched with 1,024 rows. Only memory can be wanting.
+// Both goal figures of the start, and a shortest plan from there, searched with 1,024 rows. An error says that memory was wanting.
 pub fn plan(heap: Global, task: &Task) -> Result<Planned, AllocError>
     ensures { IfOk result (PlannedLaw (problem task.now)) }
 {

@@ -41,10 +41,10 @@ fn results_of<R: Drop, Q: Drop>(worked: Worked<R, Q>) -> (Figure, Outcome)
     ensures ended { worked.outcome ≡ Ok result.1 }
 {
     let figure = told_figure(worked.answers.as_slice());
-    match worked.outcome {
-        Ok(outcome) => (figure, outcome),
-        Err(_) => unreachable(),
-    }
+    let Ok(outcome) = worked.outcome else {
+        unreachable()
+    };
+    (figure, outcome)
 }
 
 // Tells the additive goal figure by a session of its own, and searches with 1,024 rows.
@@ -70,7 +70,7 @@ pub(crate) fn plan_over<E: Estimator + Drop>(
     } = lend(heap)?;
     let start = task.start_state();
     let mut asked = est;
-    match work_and_search(
+    let worked = work_and_search(
         heap,
         own,
         AdditiveRule,
@@ -82,17 +82,14 @@ pub(crate) fn plan_over<E: Estimator + Drop>(
         &mut frontier,
         &mut rows,
         &mut steps,
-    ) {
-        Err(unopened) => Err(wanting(unopened)),
-        Ok(worked) => {
-            let (additive, outcome) = results_of(worked);
-            steps.truncate(plan_length(outcome));
-            Ok(Planned {
-                additive,
-                max,
-                outcome,
-                steps,
-            })
-        }
-    }
+    )
+    .map_err(wanting)?;
+    let (additive, outcome) = results_of(worked);
+    steps.truncate(plan_length(outcome));
+    Ok(Planned {
+        additive,
+        max,
+        outcome,
+        steps,
+    })
 }
