@@ -27,6 +27,7 @@ use strips::task::Task;
 
 // Opens a session on a task, a rule and a queue and works the calls; then searches a plan of the sought task from the start state.
 // An opening that is refused, or wants memory, gives all back, and nothing is searched.
+// The loans stand apart, since the contract says of each what it holds afterwards, which it could not of a struct that takes them.
 pub fn work_and_search<R: CostRule, Q: Queue<Key = Figure>, E: Estimator, P: Queue<Key = Pair>>(
     heap: Global,
     task: Task,

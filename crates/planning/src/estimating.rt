@@ -35,8 +35,9 @@ pub(crate) fn estimator_of(
 {
     let own = task.twin(heap)?;
     let queue: HeapQueue<Figure> = HeapQueue::new(heap, own.item_count())?;
-    let (session, answers) =
-        Session::open_and_work(heap, own, MaxRule, queue, calls).map_err(wanting)?;
+    let (session, answers) = Session::open_and_work(heap, own, MaxRule, queue, calls).map_err(
+        wanting,
+    )?;
     let max = told_figure(answers.as_slice());
     let estimator = SessionEstimator::new(heap, session).map_err(|_| AllocError)?;
     Ok((max, Keeping::new(Larger::new(estimator, Blind))))

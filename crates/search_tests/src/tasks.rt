@@ -19,10 +19,7 @@ fn action(pre: &[u8], add: &[u8], del: &[u8]) -> Option<Action> {
 }
 
 fn task(facts: u8, actions: Vec<Action>, goal: &[u8], start: &[u8]) -> Option<Task> {
-    match Task::new(facts, actions, list(goal)?, list(start)?) {
-        Ok(task) => Some(task),
-        Err(_) => None,
-    }
+    Task::new(facts, actions, list(goal)?, list(start)?).ok()
 }
 
 // The move of a disc from one peg to another; the smaller discs are on the third.

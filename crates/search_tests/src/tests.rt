@@ -27,16 +27,11 @@ fn hanoi_blind(rt: HostRuntime) -> Result<(), Fail> {
     let mut queue: TableQueue<Pair> = <TableQueue<_> as Queue>::new(heap, 40)?;
     let mut rows = [Row::unused(); 40];
     let mut steps = [99u16; 40];
-    let plan = match search(&task, &start, &mut Blind, &mut queue, &mut rows, &mut steps) {
-        Ok(Outcome::Plan { length, used }) => length == 7 && used <= 27,
-        _ => false,
-    };
+    let outcome = search(&task, &start, &mut Blind, &mut queue, &mut rows, &mut steps);
+    let plan = matches!(outcome, Ok(Outcome::Plan { length: 7, used }) if used <= 27);
     assert!(rt; plan);
     assert!(rt; queue.is_empty() && steps[7] == 99 && !rows[30].opened);
-    let good = match rehearse(&task, &mut start, &steps[0..7]) {
-        Ok(Verdict::Plan) => true,
-        _ => false,
-    };
+    let good = matches!(rehearse(&task, &mut start, &steps[0..7]), Ok(Verdict::Plan));
     assert!(rt; good);
     Ok(())
 }
@@ -50,15 +45,10 @@ fn hanoi_composed(rt: HostRuntime) -> Result<(), Fail> {
     let mut queue: HeapQueue<Pair> = <HeapQueue<_> as Queue>::new(heap, 27)?;
     let mut rows = [Row::unused(); 27];
     let mut steps = [99u16; 27];
-    let plan = match search(&task, &start, &mut est, &mut queue, &mut rows, &mut steps) {
-        Ok(Outcome::Plan { length, .. }) => length == 7,
-        _ => false,
-    };
+    let outcome = search(&task, &start, &mut est, &mut queue, &mut rows, &mut steps);
+    let plan = matches!(outcome, Ok(Outcome::Plan { length: 7, .. }));
     assert!(rt; plan);
-    let good = match rehearse(&task, &mut start, &steps[0..7]) {
-        Ok(Verdict::Plan) => true,
-        _ => false,
-    };
+    let good = matches!(rehearse(&task, &mut start, &steps[0..7]), Ok(Verdict::Plan));
     assert!(rt; good);
     Ok(())
 }
@@ -71,17 +61,13 @@ fn full_and_none(rt: HostRuntime) -> Result<(), Fail> {
     let mut queue: HeapQueue<Pair> = <HeapQueue<_> as Queue>::new(heap, 8)?;
     let mut rows = [Row::unused(); 5];
     let mut steps = [99u16; 5];
-    let full = match search(&task, &start, &mut Blind, &mut queue, &mut rows, &mut steps) {
-        Ok(Outcome::RowsFull { used }) => used == 5,
-        _ => false,
-    };
+    let outcome = search(&task, &start, &mut Blind, &mut queue, &mut rows, &mut steps);
+    let full = matches!(outcome, Ok(Outcome::RowsFull { used: 5 }));
     assert!(rt; full && queue.is_empty() && steps[0] == 99);
     let task = blocked(heap).ok_or("no task")?;
     let start = task.start_state();
-    let none = match search(&task, &start, &mut Blind, &mut queue, &mut rows, &mut steps) {
-        Ok(Outcome::NoPlan { used }) => used == 2,
-        _ => false,
-    };
+    let outcome = search(&task, &start, &mut Blind, &mut queue, &mut rows, &mut steps);
+    let none = matches!(outcome, Ok(Outcome::NoPlan { used: 2 }));
     assert!(rt; none && rows[0].opened && rows[1].opened && steps[0] == 99);
     Ok(())
 }
@@ -94,10 +80,8 @@ fn goal_at_once(rt: HostRuntime) -> Result<(), Fail> {
     let mut queue: TableQueue<Pair> = <TableQueue<_> as Queue>::new(heap, 1)?;
     let mut rows = [Row::unused(); 1];
     let mut steps = [99u16; 1];
-    let plan = match search(&task, &start, &mut Blind, &mut queue, &mut rows, &mut steps) {
-        Ok(Outcome::Plan { length, used }) => length == 0 && used == 1,
-        _ => false,
-    };
+    let outcome = search(&task, &start, &mut Blind, &mut queue, &mut rows, &mut steps);
+    let plan = matches!(outcome, Ok(Outcome::Plan { length: 0, used: 1 }));
     assert!(rt; plan && steps[0] == 99);
     Ok(())
 }
@@ -111,23 +95,21 @@ fn opens_again(rt: HostRuntime) -> Result<(), Fail> {
     let mut queue: HeapQueue<Pair> = <HeapQueue<_> as Queue>::new(heap, 6)?;
     let mut rows = [Row::unused(); 6];
     let mut steps = [99u16; 6];
-    let plan = match search(
+    let outcome = search(
         &task,
         &start,
         &mut Misleading,
         &mut queue,
         &mut rows,
         &mut steps,
-    ) {
-        Ok(Outcome::Plan { length, used }) => length == 3 && used == 6,
-        _ => false,
-    };
+    );
+    let plan = matches!(outcome, Ok(Outcome::Plan { length: 3, used: 6 }));
     assert!(rt; plan);
     assert!(rt; steps[0] == 0 && steps[1] == 1 && steps[2] == 5 && steps[3] == 99);
     Ok(())
 }
 
-// The number of the refusal, or 0.
+// The number of the refusal, if the search was refused.
 fn refused<E: Estimator, Q: Queue<Key = Pair>>(
     task: &Task,
     start: &State,
@@ -135,14 +117,10 @@ fn refused<E: Estimator, Q: Queue<Key = Pair>>(
     queue: &mut Q,
     rows: &mut [Row],
     steps: &mut [u16],
-) -> u8 {
-    match search(task, start, est, queue, rows, steps) {
-        Ok(_) => 0,
-        Err(SearchRefusal::StateBeyond { .. }) => 8,
-        Err(SearchRefusal::QueueUnfit) => 11,
-        Err(SearchRefusal::RowsUnfit) => 15,
-        Err(SearchRefusal::EstimatorUnfit) => 16,
-    }
+) -> Option<u8> {
+    search(task, start, est, queue, rows, steps)
+        .err()
+        .map(SearchRefusal::number)
 }
 
 // With everything unfit the smallest number is given; then, one by one, the next.
@@ -161,23 +139,23 @@ fn refusals_in_order(rt: HostRuntime) -> Result<(), Fail> {
         refused(
             &task, &beyond, &mut Unfit, &mut queue, &mut rows, &mut steps
         ),
-        8
+        Some(8)
     );
     assert_eq!(rt;
         refused(&task, &start, &mut Unfit, &mut queue, &mut rows, &mut steps),
-        11
+        Some(11)
     );
     assert_eq!(rt;
         refused(&task, &start, &mut Unfit, &mut wide, &mut rows, &mut steps),
-        15
+        Some(15)
     );
     assert_eq!(rt;
         refused(&task, &start, &mut Unfit, &mut wide, &mut rows, &mut more),
-        16
+        Some(16)
     );
     assert_eq!(rt;
         refused(&task, &start, &mut Blind, &mut wide, &mut rows, &mut more),
-        0
+        None
     );
     Ok(())
 }
@@ -192,7 +170,7 @@ fn no_rows(rt: HostRuntime) -> Result<(), Fail> {
     let mut steps = [99u16; 3];
     assert_eq!(rt;
         refused(&task, &start, &mut Blind, &mut queue, &mut rows, &mut steps),
-        15
+        Some(15)
     );
     Ok(())
 }
@@ -215,7 +193,7 @@ fn queue_held(rt: HostRuntime) -> Result<(), Fail> {
     let mut steps = [99u16; 3];
     assert_eq!(rt;
         refused(&task, &start, &mut Blind, &mut queue, &mut rows, &mut steps),
-        11
+        Some(11)
     );
     assert!(rt; queue.holds(2) && !rows[0].opened);
     Ok(())

@@ -2,7 +2,7 @@ use Rattle.std.proofs.Common.{◌≡◌, Some, None, sym, ap, ◌∙◌, arith}
 use Rattle.std.proofs.lemmas.Bool.Decides.{not_from_Decides}
 use Rattle.strips.specs.Standing.{standing}
 use Rattle.rows.specs.Rows.{blank}
-use Rattle.rows.specs.Lookups.{here, next, link, state_at}
+use Rattle.rows.specs.Lookups.{here, Has, next, link, state_at}
 use Rattle.rows.proofs.Ways.{snoc, next_later, missing}
 use Rattle.rows.proofs.lookup.find.Goals as goal
 
@@ -12,7 +12,9 @@ loop-row-init c used t = (t.some, here 0)
 pub returns-then-eq : goal.returns-then-eq
 returns-then-eq c used t =
     let e = c.in-Some.ensures.lookup.4 (omega arith) blank in
-    record { within = (c.loop-row.invariant used t).0; is = ap (λ w. standing w.state) (sym e) ∙ c.eq.ensures.same.0 c.if-eq.true }
+    let h : Has c.args.rows.now used (standing c.args.state.now) c.loop-row.at =
+    record { within = (c.loop-row.invariant used t).0; is = ap (λ w. standing w.state) (sym e) ∙ c.eq.ensures.same.0 c.if-eq.true } in
+    h
 
 pub loop-row-preserved : goal.loop-row-preserved
 loop-row-preserved c used t =
