@@ -4,6 +4,5 @@
 mod branch;
 pub mod lookup;
 pub mod making;
-pub mod misplaced;
 pub mod row;
 pub mod seat;

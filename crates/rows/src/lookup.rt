@@ -1,9 +1,8 @@
 // Looking states up among rows, and linking new rows.
-ghost use Rattle.std.specs.Prelude.{◌≡◌, ℕ, MatchResult};
+ghost use Rattle.std.specs.Prelude.{◌≡◌, ℕ};
 ghost use Rattle.strips.specs.Standing.{standing};
-ghost use Rattle.rows.specs.Lookups.{Tree, Looked, Numbers, Hung};
+ghost use Rattle.rows.specs.Lookups.{Tree, Looked, Hung};
 
-use crate::misplaced::Misplaced;
 use crate::row::Row;
 use crate::seat::Seat;
 use strips::state::State;
@@ -26,12 +25,11 @@ pub fn find(rows: &[Row], state: &State) -> Seat
 }
 
 // Writes the row at the number and links it from an earlier row; the rows are left as they were where these numbers do not fit.
-pub fn hang(rows: &mut [Row], under: usize, number: usize, row: Row) -> Result<(), Misplaced>
-    ensures told { MatchResult result (λ _. Numbers rows.old under number) (λ _. Numbers rows.old under number → ⊥) }
-    ensures hung { Hung rows.old under number row rows.new }
+pub fn hang(rows: &mut [Row], under: usize, number: usize, row: Row)
+    ensures { Hung rows.old under number row rows.new }
 {
     if under >= number || number >= rows.len() || number > 65535 {
-        return Err(Misplaced);
+        return;
     }
     rows[number] = Row {
         fact: 0,
@@ -42,5 +40,4 @@ pub fn hang(rows: &mut [Row], under: usize, number: usize, row: Row) -> Result<(
     let upper = rows[under];
     let fact = upper.branch(&row.state);
     rows[under] = upper.link_to(&row.state, fact, number as u16);
-    Ok(())
 }

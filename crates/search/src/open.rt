@@ -52,8 +52,7 @@ impl<E: Estimator, Q: Queue<Key = Pair>> Board<'_, '_, E, Q> {
         let steps = rows[origin.row as usize].steps + 1;
         let estimate = self.est.estimate(next);
         let row = Row::new(*next, steps, estimate, origin.row, origin.action);
-        // The numbers fit wherever the state was looked up among the rows in use.
-        let _ = hang(rows, under, number, row);
+        hang(rows, under, number, row);
         enqueue(self.queue, number, steps, estimate);
         self.used = number + 1;
     }

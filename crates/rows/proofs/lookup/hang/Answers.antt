@@ -5,8 +5,8 @@ use Rattle.rows.specs.Lookups.{Numbers, Leaf, linked, Written}
 use Rattle.rows.proofs.Ways.{read, hung_written}
 use Rattle.rows.proofs.lookup.hang.Goals as goal
 
-pub returns-clause-hung : goal.returns-clause-hung
-returns-clause-hung c =
+pub returns : goal.returns
+returns c =
     let rows = c.args.rows.now in
     let under = c.args.under in
     let used = c.args.number in
