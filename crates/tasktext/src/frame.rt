@@ -90,6 +90,7 @@ impl<'a> Frame<'a> {
     }
 
     // The list of the `count` bytes from `from`.
+    // By a loop, since the bytes stand nowhere as a slice: each is decoded from two digits.
     fn list<const N: usize>(&self, from: usize, count: usize) -> FactList<N>
         requires room { count ≤ N }
         requires within { from + count ≤ length (bytes_of self.now.line) }

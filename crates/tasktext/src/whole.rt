@@ -104,7 +104,7 @@ impl<'a> Whole<'a> {
     }
 
     // Whether each number is within bounds and each list rises.
-    // In one pass, since each look decodes a byte: two chains, one for each test, make reading a tenth slower.
+    // By one loop, since each look decodes a byte: a pass for each test made reading a tenth slower.
     pub(crate) fn check(&self) -> Result<(), FrameFault>
         ensures { MatchResult result (λ _. refusal self.now.due (bytes_of self.now.line) ≡ None) (λ e. IsFirst self.now.due self.now.line e) }
     {
