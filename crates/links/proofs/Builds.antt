@@ -1,9 +1,9 @@
 -- The lists that the indexes are built of. Assumes nothing.
-use Rattle.std.proofs.Common.{◌≡◌, ℕ, zero, suc, ◌+◌, ◌<◌, ◌≤◌, Bool, cond, ◌||◌, List, [], ◌∷◌, ◌++◌, map, length, get_or, drop, Some, None, Ok, Err, vec_items, Result, Vec, IfOk, sym, refl, ap, ◌∙◌, arith, below_more}
+use Rattle.std.proofs.Common.{◌≡◌, ℕ, ◌+◌, ◌<◌, Bool, cond, ◌||◌, List, [], ◌∷◌, ◌++◌, map, length, get_or, drop, Ok, Err, vec_items, Result, Vec, IfOk, sym, refl, ap, ◌∙◌, arith, below_more}
 use Rattle.std.specs.declared.alloc.Global.{Global}
 use Rattle.std.specs.Prelude.{◌==◌}
 use Rattle.std.specs.declared.alloc.AllocError.{AllocError}
-use Rattle.std.specs.List.{slice_get, list_any}
+use Rattle.std.specs.List.{list_any}
 use Rattle.std.proofs.lemmas.List.{get_or-map, get_or_push, get_or_append_left, length_push, map_push, at_drop_more}
 use Rattle.model.specs.Strips.{Problem, Action, names, no_action}
 use Rattle.model.specs.Figures.{adding, adders}
@@ -11,23 +11,6 @@ use Rattle.strips.specs.declared.action.Action.{Action as ActionValue}
 use Rattle.strips.specs.Actions.{action_of}
 use Rattle.session_theory.specs.Readers.{needing_items}
 use Rattle.links.specs.Indexes.{lists, Indexes, picked, Picks}
-
-pub action_some : (acts : List Action) (k : ℕ) (a : Action) → slice_get acts k ≡ Some a → get_or acts k no_action ≡ a
-action_some acts k a e = grind_read acts k a e where
-  grind_read : (acts : List Action) (k : ℕ) (a : Action) → slice_get acts k ≡ Some a → get_or acts k no_action ≡ a
-  grind_read [] k a e = absurd (let z : ◌≡◌ {A = ℕ} 0 1 = cc in omega arith)
-  grind_read (b ∷ bs) zero a e = cc
-  grind_read (b ∷ bs) (suc k) a e = grind_read bs k a e
-
-pub action_within : (acts : List Action) (k : ℕ) → slice_get acts k ≡ None → length acts ≤ k
-action_within [] k e = omega arith
-action_within (b ∷ bs) zero e = absurd (let z : ◌≡◌ {A = ℕ} 0 1 = cc in omega arith)
-action_within (b ∷ bs) (suc k) e = omega (arith, action_within bs k e)
-
-pub action_none : (acts : List Action) (k : ℕ) → slice_get acts k ≡ None → get_or acts k no_action ≡ no_action
-action_none [] k e = refl
-action_none (b ∷ bs) zero e = absurd (let z : ◌≡◌ {A = ℕ} 0 1 = cc in omega arith)
-action_none (b ∷ bs) (suc k) e = action_none bs k e
 
 pub picked_more : (test : Action → Bool) (facts k : ℕ) (acts : List Action) (b : Bool) → k < length acts → test (get_or acts k no_action) ≡ b → picked test (facts + k) (drop k acts) ≡ cond b ((facts + k) ∷ picked test (facts + (k + 1)) (drop (k + 1) acts)) (picked test (facts + (k + 1)) (drop (k + 1) acts))
 picked_more test facts k acts b h m =

@@ -23,10 +23,6 @@ module _ (rule : Rule) (p : Problem) (s : State) (x : Table) (q : ℕ) where
   unfolding equations
   at_past l = ap (side rule x) (node_past p s q l)
 
-pub least_low : (x : Table) (l : List ℕ) → least x l ≤ top
-least_low x [] = omega arith
-least_low x (q ∷ l) = omega (arith, least_low x l)
-
 module _ {X : Type 0} where
   pub nth_some : (l : List X) (k : ℕ) (y d : X) → slice_get l k ≡ Some y → (k < length l) × (get_or l k d ≡ y)
   nth_some [] k y d e = absurd (let z : ◌≡◌ {A = ℕ} 0 1 = cc in omega arith)

@@ -6,13 +6,7 @@ use strips::list::FactList;
 use strips::task::Task;
 
 fn list_of<const N: usize>(facts: &[u8]) -> Result<FactList<N>, Fail> {
-    let mut list = FactList::new();
-    for f in facts {
-        if list.push(*f).is_err() {
-            return Err(Fail::new("a list that should do"));
-        }
-    }
-    Ok(list)
+    FactList::try_from(facts).map_err(|_| Fail::new("a list that should do"))
 }
 
 fn action_of(pre: &[u8], add: &[u8], del: &[u8]) -> Result<Action, Fail> {
