@@ -1,11 +1,13 @@
 // Faults in words.
+use crate::written::run_of;
 use std::test::Fail;
 use tasktext::text::read_task;
+use textfault::fault::ReadFault;
 
 #[test]
 fn each_fault_in_words(rt: HostRuntime) -> Result<(), Fail> {
     let heap = rt.alloc();
-    let longest = super::written::run_of(heap, b'0', 515, b"")?;
+    let longest = run_of(heap, b'0', 515, b"")?;
     let told: [(&[u8], &str); 8] = [
         (
             b"0\n",
@@ -46,5 +48,10 @@ fn each_fault_in_words(rt: HostRuntime) -> Result<(), Fail> {
         };
         assert_eq!(rt; format!(in heap; "{fault}")?.as_str(), words);
     }
+    let memory = ReadFault::Memory;
+    assert_eq!(rt;
+        format!(in heap; "{memory}")?.as_str(),
+        "no memory for a task"
+    );
     Ok(())
 }
