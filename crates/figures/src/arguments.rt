@@ -42,7 +42,7 @@ pub struct Asked {
 pub fn asked_for(rt: &HostRuntime) -> anyhow::Result<Asked> {
     let mut calls = Vec::new(rt.alloc());
     let mut rule = RuleChoice::Additive;
-    let mut begun = None;
+    let mut begun: Option<Begun> = None;
     for argument in env::args(rt)?.skip(1) {
         let word = argument.as_str();
         if let Some(call) = begun {
