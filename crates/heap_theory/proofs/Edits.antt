@@ -1,10 +1,9 @@
 -- What an added, re-keyed or removed item does to a heap. Assumes nothing.
-use Rattle.std.proofs.Common.{◌≡◌, ℕ, ◌+◌, ◌-◌, ◌<◌, ◌≤◌, Bool, true, false, eqb, ltb, List, length, get_or, set, is_some, Some, None, Option, sym, refl, ap, ◌∙◌, subst, arith, length-set, eqb-true}
-use borrow.Author.Tests.{eqb-false}
-use Rattle.std.proofs.lemmas.Bool.{lt-ltb, ltb-true, ltb-false}
+use Rattle.std.proofs.Common.{◌≡◌, ℕ, ◌+◌, ◌-◌, ◌<◌, ◌≤◌, Bool, true, false, ltb, List, length, get_or, set, is_some, Some, None, Option, sym, refl, ap, ◌∙◌, subst, arith, length-set}
+use Rattle.std.proofs.lemmas.Bool.{ltb-true, ltb-false}
 use Rattle.queue.specs.Keys.{Orders}
 use Rattle.queue.specs.Queues.{at, held, vacant}
-use Rattle.queue.proofs.Tables.{differ, at_within, empty_vacant, not_vacant}
+use Rattle.queue.proofs.Tables.{at_within, empty_vacant}
 use Rattle.heap_theory.specs.Heaps.{Swapped, Paired, Held, Shape, Ordered, Rising, Unsettled, slot_key, option_leq}
 use Rattle.heap_theory.proofs.Swaps.{option_trans, option_refl, swapped_map}
 use Rattle.heap_theory.proofs.Resets.{Reset, key_reset, added_held, reset_held, removed_held, added_up, reset_near, removed_near, removed_last, root_least}
@@ -31,20 +30,6 @@ module _ {K : Type 0} where
 
     pub root_within : 0 < size → get_or slots 0 0 < length keys
     root_within h = let fits = o.fits in o.paired.slot_within 0 (omega arith)
-
-    pub root_held : 0 < size → held keys (get_or slots 0 0) ≡ true
-    root_held h = let fits = o.fits in o.held 0 (omega arith) ∙ lt-ltb 0 size h
-
-    -- a heap of no items is the one that holds nothing
-    pub size_vacant : (b : Bool) → eqb size 0 ≡ b → b ≡ vacant keys
-    size_vacant true e = sym (none_held (eqb-true size 0 e))
-    size_vacant false e = some_held (at keys (get_or slots 0 0)) refl where
-      some_held : (v : Option K) → at keys (get_or slots 0 0) ≡ v → false ≡ vacant keys
-      some_held (Some x) q = sym (not_vacant keys (get_or slots 0 0) x q)
-      some_held None q =
-          let ne : size ≡ 0 → ⊥ = eqb-false size 0 e in
-          let z : false ≡ true = sym (ap is_some q) ∙ root_held (omega arith) in
-          absurd (differ (sym z))
 
     -- no held key is below that of the root
     pub root_smallest : {leq : K → K → Bool} → Ordered leq keys slots size → Orders leq → (x : K) → at keys (get_or slots 0 0) ≡ Some x → (j : ℕ) (y : K) → at keys j ≡ Some y → leq x y ≡ true
