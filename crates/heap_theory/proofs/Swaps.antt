@@ -1,75 +1,12 @@
 -- Two slots exchanged. Assumes nothing.
-use Rattle.std.proofs.Common.{◌≡◌, ℕ, ◌<◌, ◌≤◌, Bool, true, false, ltb, List, length, get_or, set, is_some, Some, None, Option, sym, refl, ap, ◌∙◌, subst, ⊎_elim, arith, length-set, get_or-set_other, get_or-set_same}
+use Rattle.std.proofs.Common.{◌≡◌, ℕ, ◌<◌, ◌≤◌, Bool, true, false, ltb, List, length, is_some, Some, None, Option, sym, refl, ap, ◌∙◌, ⊎_elim, arith}
 use Rattle.std.proofs.lemmas.Bool.{cases_eq, lt-ltb}
 use Rattle.queue.specs.Keys.{Orders}
-use Rattle.heap_theory.specs.Heaps.{Swapped, Paired, Held, slot_key, option_leq}
+use Rattle.heap_theory.specs.Heaps.{Swapped, Held, slot_key, option_leq}
 use Rattle.queue.proofs.Tables.{differ, not_leq, leq_refl}
 
 pub swapped_map : {X Y : Type 0} (h : X → Y) {f g : ℕ → X} {p q : ℕ} → Swapped f g p q → Swapped (λ i. h (f i)) (λ i. h (g i)) p q
 swapped_map h s = record { first = λ k e. ap h (s.first k e); second = λ k e. ap h (s.second k e); other = λ k e d. ap h (s.other k e d) }
-
-abbrev swapped : List ℕ → ℕ → ℕ → List ℕ
-swapped l a b = set (set l a (get_or l b 0)) b (get_or l a 0)
-
-pub set_swapped : (l : List ℕ) (a b : ℕ) → a < length l → b < length l → Swapped (λ i. get_or l i 0) (λ i. get_or (set (set l a (get_or l b 0)) b (get_or l a 0)) i 0) a b
-set_swapped l a b al bl = record { first = first; second = second; other = other } where
-  second : (k : ℕ) → k ≡ b → get_or (swapped l a b) k 0 ≡ get_or l a 0
-  second k e =
-      let h : b < length (set l a (get_or l b 0)) = simp length-set bl in
-      ap (λ v. get_or (swapped l a b) v 0) e ∙ get_or-set_same (set l a (get_or l b 0)) b (get_or l a 0) 0 h
-
-  first : (k : ℕ) → k ≡ a → get_or (swapped l a b) k 0 ≡ get_or l b 0
-  first k e =
-      ⊎_elim
-      (λ kb. second k kb ∙ ap (λ v. get_or l v 0) (sym e ∙ kb))
-      (λ kb. get_or-set_other (set l a (get_or l b 0)) b k (get_or l a 0) 0 kb ∙ ap (λ v. get_or (set l a (get_or l b 0)) v 0) e ∙ get_or-set_same l a (get_or l b 0) 0 al)
-      (cases_eq k b)
-
-  other : (k : ℕ) → (k ≡ a → ⊥) → (k ≡ b → ⊥) → get_or (swapped l a b) k 0 ≡ get_or l k 0
-  other k ka kb = get_or-set_other (set l a (get_or l b 0)) b k (get_or l a 0) 0 kb ∙ get_or-set_other l a k (get_or l b 0) 0 ka
-
-back_swap : {S T P Q : ℕ → ℕ} {a b x y : ℕ} (n : ℕ) → Swapped S T a b → Swapped P Q y x → S a ≡ x → S b ≡ y → P x ≡ a → P y ≡ b → ((k : ℕ) → k < n → P (S k) ≡ k) → (k : ℕ) → k < n → Q (T k) ≡ k
-back_swap {S} {T} {P} {Q} {a} {b} {x} {y} n s t sx sy px py back k h =
-    ⊎_elim
-    (λ ka. t.first (T k) (s.first k ka ∙ sy) ∙ px ∙ sym ka)
-    (λ ka. ⊎_elim
-    (λ kb. t.second (T k) (s.second k kb ∙ sx) ∙ py ∙ sym kb)
-    (λ kb.
-    let same : T k ≡ S k = s.other k ka kb in
-    t.other (T k)
-    (λ e. kb (sym (back k h) ∙ ap P (sym same ∙ e) ∙ py))
-    (λ e. ka (sym (back k h) ∙ ap P (sym same ∙ e) ∙ px))
-    ∙ ap P same ∙ back k h)
-    (cases_eq k b))
-    (cases_eq k a)
-
-within_swap : {S T : ℕ → ℕ} {a b : ℕ} (n : ℕ) → Swapped S T a b → a < n → b < n → ((k : ℕ) → k < n → S k < n) → (k : ℕ) → k < n → T k < n
-within_swap {S} {T} {a} {b} n s an bn all k h =
-    ⊎_elim
-    (λ ka. subst (λ v. v < n) (sym (s.first k ka)) (all b bn))
-    (λ ka. ⊎_elim (λ kb. subst (λ v. v < n) (sym (s.second k kb)) (all a an)) (λ kb. subst (λ v. v < n) (sym (s.other k ka kb)) (all k h)) (cases_eq k b))
-    (cases_eq k a)
-
--- what an exchange of the slots and of the places leaves: y and x are the items now in the slots a and b
-pub paired_swap : {slots more places : List ℕ} {n : ℕ} (a b y x : ℕ) → Paired slots places n → a < n → b < n → length more ≡ n → Swapped (λ i. get_or slots i 0) (λ i. get_or more i 0) a b → y ≡ get_or more a 0 → x ≡ get_or more b 0 → Paired more (set (set places y a) x b) n
-paired_swap {slots} {more} {places} {n} a b y x p an bn long s ya xb =
-    let yb : y ≡ get_or slots b 0 = ya ∙ s.first a refl in
-    let xa : x ≡ get_or slots a 0 = xb ∙ s.second b refl in
-    let yl : y < length places = subst (λ v. v < length places) (sym yb) (subst (λ v. get_or slots b 0 < v) (sym p.places_long) (p.slot_within b bn)) in
-    let xl : x < length places = subst (λ v. v < length places) (sym xa) (subst (λ v. get_or slots a 0 < v) (sym p.places_long) (p.slot_within a an)) in
-    let px : get_or places x 0 ≡ a = ap (λ v. get_or places v 0) xa ∙ p.slot_back a an in
-    let py : get_or places y 0 ≡ b = ap (λ v. get_or places v 0) yb ∙ p.slot_back b bn in
-    let t : Swapped (λ i. get_or places i 0) (λ i. get_or (set (set places y a) x b) i 0) y x =
-    subst (λ v. Swapped (λ i. get_or places i 0) (λ i. get_or (set (set places y a) x v) i 0) y x) py
-    (subst (λ v. Swapped (λ i. get_or places i 0) (λ i. get_or (set (set places y v) x (get_or places y 0)) i 0) y x) px (set_swapped places y x yl xl)) in
-    record {
-      slots_long = long;
-      places_long = simp length-set p.places_long;
-      slot_within = within_swap n s an bn p.slot_within;
-      slot_back = back_swap n s t (sym xa) (sym yb) px py p.slot_back;
-      place_within = within_swap n t (subst (λ v. y < v) p.places_long yl) (subst (λ v. x < v) p.places_long xl) p.place_within;
-      place_back = back_swap n t s py px (sym yb) (sym xa) p.place_back;
-    }
 
 module _ {K : Type 0} where
   pub held_swap : (keys : List (Option K)) (slots more : List ℕ) (size a b : ℕ) → Swapped (slot_key keys slots) (slot_key keys more) a b → a < size → b < size → size ≤ length keys → Held keys slots size → Held keys more size

@@ -62,20 +62,17 @@ fn time<Q: Queue<Key = Pair>>(rt: &HostRuntime, queue: &mut Q, items: u32) -> an
     })
 }
 
-fn time_heap(rt: &HostRuntime, items: u32) -> anyhow::Result<Laps> {
-    let mut queue: HeapQueue<Pair> = HeapQueue::new(rt.alloc(), items as usize)?;
-    time(rt, &mut queue, items)
-}
-
-fn time_table(rt: &HostRuntime, items: u32) -> anyhow::Result<Laps> {
-    let mut queue: TableQueue<Pair> = TableQueue::new(rt.alloc(), items as usize)?;
+// On a queue of its own.
+fn time_new<Q: Queue<Key = Pair> + Drop>(rt: &HostRuntime, items: u32) -> anyhow::Result<Laps> {
+    let mut queue = Q::new(rt.alloc(), items as usize)?;
     time(rt, &mut queue, items)
 }
 
 fn run(rt: &HostRuntime) -> anyhow::Result<()> {
     let mut args = env::args(rt)?.skip(1);
     let Some(kind) = args.next() else {
-        let agree = time_heap(rt, 100)?.sum == time_table(rt, 100)?.sum;
+        let agree = time_new::<HeapQueue<Pair>>(rt, 100)?.sum
+            == time_new::<TableQueue<Pair>>(rt, 100)?.sum;
         return Ok(println!(rt; "heap and table agree on 100 items: {agree}")?);
     };
     let items = match args.next() {
@@ -83,9 +80,9 @@ fn run(rt: &HostRuntime) -> anyhow::Result<()> {
         None => 1000,
     };
     let laps = if kind.as_str() == "table" {
-        time_table(rt, items)?
+        time_new::<TableQueue<Pair>>(rt, items)?
     } else {
-        time_heap(rt, items)?
+        time_new::<HeapQueue<Pair>>(rt, items)?
     };
     let puts = laps.puts.as_nanos();
     let rekeys = laps.rekeys.as_nanos();

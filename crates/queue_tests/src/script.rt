@@ -9,8 +9,8 @@ use std::test::Fail;
 
 // A fixed pseudo-random sequence.
 #[derive(Drop)]
-pub struct Random {
-    pub state: u32,
+struct Random {
+    state: u32,
 }
 
 impl Random {
@@ -46,17 +46,15 @@ fn put<Q: Queue>(
     }
 }
 
-fn take<Q: Queue>(rt: &impl Abort, queue: &mut Q, list: &mut [Option<Q::Key>]) -> Result<(), Fail> {
+fn take<Q: Queue>(rt: &impl Abort, queue: &mut Q, list: &mut [Option<Q::Key>]) {
     match queue.take() {
-        Some(pair) => {
-            assert!(rt; is_smallest(list, pair.0, pair.1));
-            write(list, pair.0, None);
-            Ok(())
+        Some((item, key)) => {
+            assert!(rt; is_smallest(list, item, key));
+            write(list, item, None);
         }
         None => {
             assert!(rt; count(list) == 0);
-            Ok(())
-        },
+        }
     }
 }
 
@@ -69,8 +67,8 @@ fn drop_item<Q: Queue>(rt: &impl Abort, queue: &mut Q, list: &mut [Option<Q::Key
 fn compare<Q: Queue>(rt: &impl Abort, queue: &Q, list: &[Option<Q::Key>]) {
     assert!(rt; queue.capacity() == list.len());
     assert!(rt; queue.is_empty() == (count(list) == 0));
-    for item in 0..list.len() {
-        assert!(rt; queue.holds(item) == key_of(list, item).is_some());
+    for (item, cell) in list.iter().enumerate() {
+        assert!(rt; queue.holds(item) == cell.is_some());
     }
     assert!(rt; !queue.holds(list.len()));
     assert!(rt; !queue.holds(usize::MAX));
@@ -85,9 +83,9 @@ fn finish<Q: Queue>(
 ) -> Result<(), Fail> {
     let all = drain(queue, heap)?;
     assert!(rt; all.len() == count(list));
-    for pair in all.iter() {
-        assert!(rt; is_smallest(list, pair.0, pair.1));
-        write(list, pair.0, None);
+    for (item, key) in &all {
+        assert!(rt; is_smallest(list, *item, *key));
+        write(list, *item, None);
     }
     compare(rt, queue, list);
     Ok(())
@@ -108,11 +106,11 @@ pub fn work<Q: Queue>(
         let item = random.below(list.len().saturating_add(2));
         let chosen = random.below(keys.len());
         match random.below(8) {
-            0 | 1 => take(rt, queue, list)?,
+            0 | 1 => take(rt, queue, list),
             2 => drop_item(rt, queue, list, item),
             _ => {
-                if chosen < keys.len() {
-                    put(rt, queue, list, item, keys[chosen]);
+                if let Some(key) = keys.get(chosen) {
+                    put(rt, queue, list, item, *key);
                 }
             }
         }
