@@ -1,4 +1,4 @@
-// The functions that C and Rust call.
+// The functions that C and Rust call. Choices come as numbers, since C has no such enums.
 ghost use Rattle.c_interface.specs.Reading.{Reads};
 ghost use Rattle.c_interface.specs.Searching.{SearchAnswered};
 ghost use Rattle.c_interface.specs.Working.{WorkAnswered};

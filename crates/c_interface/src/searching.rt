@@ -11,6 +11,7 @@ use tasktext::text::read_task;
 use wire::searches::encode_search;
 
 // Searches a plan of the text's task from the state of these facts; gives the bytes of the result.
+// The choices come as C gave them, so that an unknown one is told as the failure it is.
 pub(crate) fn search(
     heap: Global,
     text: &[u8],

@@ -1,4 +1,4 @@
-// What the exported functions answer with.
+// What the exported functions answer with: plain numbers, since C has no such enums.
 
 // Why a text is refused: number, line and place; all 0 where no text is.
 #[repr(C)]

@@ -11,6 +11,7 @@ use wire::answers::encode_answers;
 use wire::calls::decode_calls;
 
 // Opens a session on the text's task and works the calls; gives the bytes of the answers.
+// The choices come as C gave them, so that an unknown one is told as the failure it is.
 pub(crate) fn work(
     heap: Global,
     text: &[u8],

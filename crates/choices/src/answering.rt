@@ -44,6 +44,7 @@ pub fn answer(
 ) -> Result<Vec<Answer>, AllocError>
     ensures { IfOk result (λ v. Rights (problem task) (rule_of rule) (fresh (problem task)) (map call_of calls.now) (map reply_of v.items)) }
 {
+    // A match, since each choice is another type: neither rules nor queues are values behind a dyn.
     match (rule, queue) {
         (RuleChoice::Additive, QueueChoice::Heap) => answer_by::<AdditiveRule, HeapQueue<Figure>>(
             heap,

@@ -27,6 +27,7 @@ pub enum EstimatorChoice {
 #[derive(Clone, Copy, Debug, PartialEq, Eq)]
 pub struct UnknownChoice;
 
+// One impl for each choice: the numbers and the variants are all that it says.
 impl TryFrom<u8> for RuleChoice {
     type Error = UnknownChoice;
 

@@ -73,6 +73,7 @@ impl Query<'_> {
     ) -> Result<Found, AllocError>
         ensures { IfOk result (FindsFor self.now) }
     {
+        // A match, since each choice is another type.
         match estimate {
             EstimatorChoice::Blind => self.find_by::<P, Blind>(heap, &mut Blind),
             EstimatorChoice::Session => {

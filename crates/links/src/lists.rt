@@ -29,6 +29,7 @@ fn items_where<P: Fn(&Action) -> bool>(
 {
     let facts = usize::from(task.facts());
     let mut all = Vec::new(heap);
+    // By number, since an action is asked for by its number, which gives its item.
     for k in 0..task.action_count() {
         if let Some(act) = task.action(k) {
             if passes(act) {

@@ -15,6 +15,7 @@ pub(crate) fn depth(rows: &[Row], used: usize, row: usize) -> usize
 {
     let mut n = 0;
     let mut i = row;
+    // From parent to parent, up to the first row.
     while i != 0 {
         n += 1;
         i = rows[i].from as usize;
