@@ -13,7 +13,6 @@ use Rattle.model.specs.Figures.{max_rule}
 use Rattle.model.specs.Runs.{Call, Reply}
 use Rattle.model.specs.Runs.Call.{settle, goal}
 use Rattle.model.specs.Runs.Reply.{is}
-use Rattle.queue.specs.declared.key.Key.{Ghosts}
 use Rattle.queue.specs.Keys.{figure_leq, pair_leq}
 use Rattle.heap.specs.declared.store.HeapQueue.{HeapQueue}
 use Rattle.heap.specs.Meaning.{pairs_of, InOrder}
@@ -48,7 +47,7 @@ Unrefused (Ok o) = Unit {0}
 Unrefused (Err e) = ⊥
 
 -- nothing is kept yet, and the session is sound and on the problem
-pub record Estimating {key : Ghosts Figure} (p : Problem) (e : Keeping (Larger (SessionEstimator (HeapQueue Figure key)) Blind)) : Type 0 where
+pub record Estimating (p : Problem) (e : Keeping (Larger (SessionEstimator (HeapQueue Figure)) Blind)) : Type 0 where
   pub fresh : kept e ≡ []
   pub on_task : task_of e.inner.first.session ≡ p
   pub sound : Sound (λ _. max_rule) (InOrder figure_leq) pairs_of e.inner.first.session

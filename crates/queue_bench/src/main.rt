@@ -79,6 +79,7 @@ fn run(rt: &HostRuntime) -> anyhow::Result<()> {
         Some(text) => text.as_str().parse::<u32>()?,
         None => 1000,
     };
+    // By a test, since each kind of queue is another type.
     let laps = if kind.as_str() == "table" {
         time_new::<TableQueue<Pair>>(rt, items)?
     } else {

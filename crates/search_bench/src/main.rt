@@ -70,6 +70,7 @@ fn session_estimator(
 }
 
 fn searched(rt: &HostRuntime, task: &Task, estimator: &str, count: usize) -> anyhow::Result<Lap> {
+    // A match, since each estimator is another type.
     match estimator {
         "blind" => timed(rt, task, &mut Blind, count),
         "session" => timed(rt, task, &mut session_estimator(rt, task)?, count),

@@ -7,11 +7,7 @@ use strips::list::FactList;
 use strips::task::Task;
 
 fn list<const N: usize>(facts: &[u8]) -> Option<FactList<N>> {
-    let mut all = FactList::new();
-    for fact in facts {
-        all.push(*fact).ok()?;
-    }
-    Some(all)
+    facts.try_into().ok()
 }
 
 fn action(pre: &[u8], add: &[u8], del: &[u8]) -> Option<Action> {

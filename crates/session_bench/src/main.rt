@@ -44,6 +44,7 @@ fn asked(rt: &HostRuntime, task: &Task, words: &[String]) -> anyhow::Result<()> 
     let way = way.as_str().parse::<Way>()?;
     let changes = changes.as_str().parse::<u32>()?;
     let flips = Flips::new(seed.as_str().parse::<u64>()?);
+    // By a test, since each rule is another type.
     if rule.as_str() == "max" {
         tell(rt, measure(rt, task, MaxRule, way, changes, flips)?)
     } else {

@@ -161,6 +161,7 @@ pub fn measure<R: CostRule + Copy + Drop>(
         rows: 0,
         sum: 0,
     };
+    // A match, since each way takes what the others do without.
     match way {
         Way::Kept => keep(&mut session, &mut docket, changes, flips, &mut tally),
         Way::Fresh => open_each(rt, task, rule, &mut docket, changes, flips, &mut tally)?,

@@ -2,7 +2,6 @@
 ghost use Rattle.std.specs.Prelude.{◌≡◌, MatchResult};
 
 use crate::session_estimator::SessionEstimator;
-use figure::figure::Figure;
 use rules::largest::MaxRule;
 use session::session::Session;
 use settling::row::DocketRow;
@@ -17,12 +16,7 @@ impl<Q> SessionEstimator<Q> {
         ensures { MatchResult result (λ e. e.session ≡ session) (λ s. s ≡ session) }
     {
         let rows = 2 * session.task().item_count();
-        let blank = DocketRow {
-            item: 0,
-            before: Figure::None,
-            after: Figure::None,
-        };
-        let Ok(docket) = vec![in heap; blank; rows] else {
+        let Ok(docket) = vec![in heap; DocketRow::default(); rows] else {
             return Err(session);
         };
         Ok(SessionEstimator { session, docket })
