@@ -4,7 +4,7 @@ ghost use Rattle.strips.specs.Standing.{standing};
 ghost use Rattle.strips.specs.Tasks.{problem};
 ghost use Rattle.solve.specs.Tables.{Solved};
 
-use crate::sweep::sweep_all;
+use crate::equations::Equations;
 use figure::figure::Figure;
 use rules::rule::CostRule;
 use std::alloc::{AllocError, Global};
@@ -21,6 +21,6 @@ pub fn solve<R: CostRule>(
     ensures { IfOk result (λ v. Solved (R.CostRule.rule rule.now) (problem task.now) (standing state.now) v.items) }
 {
     let mut figures = vec![in heap; Figure::None; task.item_count()]?;
-    sweep_all(task, state, rule, &mut figures);
+    Equations { task, state, rule }.sweep_all(&mut figures);
     Ok(figures)
 }
