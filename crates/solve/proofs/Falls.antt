@@ -12,7 +12,15 @@ use Rattle.model.specs.Figures.{Rule, Laws, Table, table, equations, Solves}
 use Rattle.model.proofs.Causal.{Causal, System, total, falls, agree}
 use Rattle.model.proofs.Equations.{system}
 use Rattle.model.proofs.Ranked.{table_past, table_same, table_other}
+use Rattle.strips.specs.Standing.{standing}
+use Rattle.strips.specs.Tasks.{problem}
+use Rattle.solve.specs.declared.equations.Equations.{Equations}
+use Rattle.solve.specs.Systems.{equations_of}
 use Rattle.solve.specs.Tables.{Solved, Falling, Swept}
+
+-- a lawful rule's equations are a system
+pub system_of : {R : Type 0} (result : R → Rule) → ((r : R) → Laws (result r)) → (e : Equations R) → System (items (problem e.task.now)) (equations_of result e)
+system_of result lawful e = system (result e.rule.now) (lawful e.rule.now) (problem e.task.now) (standing e.state.now)
 
 -- before the first item
 pub swept_none : (F : Table → Table) (figures : List Figure) → Falling F (table figures) → Swept F 0 figures figures false
