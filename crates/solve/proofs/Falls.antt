@@ -1,5 +1,5 @@
 -- What sweeps keep, that they end, and where. Assumes nothing.
-use Rattle.std.proofs.Common.{◌≡◌, ℕ, ◌+◌, ◌<◌, ◌≤◌, Bool, true, false, ◌≢◌, List, length, get_or, set, replicate, Decides, sym, refl, ap, ◌∙◌, ⊎_elim, arith}
+use Rattle.std.proofs.Common.{◌≡◌, ℕ, ◌+◌, ◌<◌, ◌≤◌, Bool, true, false, ◌≢◌, List, length, get_or, set, replicate, Decides, sym, refl, ap, ◌∙◌, subst, ⊎_elim, arith}
 use lib.ListN.{length-replicate}
 use Rattle.std.proofs.lemmas.List.{get_or-replicate, get_or_default}
 use Rattle.std.proofs.lemmas.Bool.{cases_lt, cases_eq, true≢false, both_ways}
@@ -83,6 +83,11 @@ none_falling n F s m q =
     let all : table (replicate m None) q ≡ top =
     ⊎_elim (λ l. ap rank (get_or-replicate m q None None l)) (λ l. table_past (replicate m None) q (omega (arith, length-replicate m None))) (cases_lt q m) in
     omega (arith, all, s.bound (table (replicate m None)) q)
+
+-- and so for the equations of any state
+pub nowhere_falling : (rule : Rule) → Laws rule → (p : Problem) (s : State) (m : ℕ) (figures : List Figure) → figures ≡ replicate m None → Falling (equations rule p s) (table figures)
+nowhere_falling rule laws p s m figures all =
+    subst (λ l. Falling (equations rule p s) (table l)) (sym all) (none_falling (items p) (equations rule p s) (system rule laws p s) m)
 
 -- the solution is the only one
 pub one_solved : (rule : Rule) → Laws rule → (p : Problem) (s : State) (figures : List Figure) → length figures ≡ items p → Solves (equations rule p s) (table figures) → Solved rule p s figures

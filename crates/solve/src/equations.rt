@@ -2,7 +2,7 @@
 use strips::state::State;
 use strips::task::Task;
 
-// Those of the task in the state, under the rule.
+// Those of the task in the state, under the rule. All three are lent, so that a copy asks nothing of the rule.
 #[derive_where(Clone, Copy)]
 pub(crate) struct Equations<'a, R> {
     pub(crate) task: &'a Task,
