@@ -30,7 +30,13 @@ job could not be done.";
 // Works the calls over a table, which gives rows of equal figures in the order of their items.
 fn work(rt: &HostRuntime, task: Task, asked: &Asked) -> anyhow::Result<()> {
     let facts = usize::from(task.facts());
-    let Ok(answers) = answer(rt.alloc(), task, asked.rule, QueueChoice::Table, &asked.calls) else {
+    let Ok(answers) = answer(
+        rt.alloc(),
+        task,
+        asked.rule,
+        QueueChoice::Table,
+        &asked.calls,
+    ) else {
         return Err(anyhow!("no memory for a session"));
     };
     for (call, answer) in asked.calls.iter().zip(&answers) {
@@ -40,7 +46,10 @@ fn work(rt: &HostRuntime, task: Task, asked: &Asked) -> anyhow::Result<()> {
 }
 
 fn run(rt: &HostRuntime) -> anyhow::Result<()> {
-    if env::args(rt)?.nth(1).is_none_or(|word| word.as_str() == "--help") {
+    if env::args(rt)?
+        .nth(1)
+        .is_none_or(|word| word.as_str() == "--help")
+    {
         return Ok(println!(rt; "{HELP}")?);
     }
     let asked = asked_for(rt)?;

@@ -24,10 +24,7 @@ number, line and place of its first fault.";
 // Whether the steps of the answer are a plan, taken one by one.
 fn rehearses(task: &Task, planned: &Planned) -> bool {
     let mut live = task.start_state();
-    matches!(
-        rehearse(task, &mut live, &planned.steps),
-        Ok(Verdict::Plan)
-    )
+    matches!(rehearse(task, &mut live, &planned.steps), Ok(Verdict::Plan))
 }
 
 fn tell(rt: &HostRuntime, name: &str, task: &Task) -> anyhow::Result<()> {

@@ -49,7 +49,10 @@ fn try_out(rt: &HostRuntime, task: &Task, live: &mut State, steps: &[u16]) -> an
 }
 
 fn run(rt: &HostRuntime) -> anyhow::Result<()> {
-    if env::args(rt)?.nth(1).is_some_and(|word| word.as_str() == "--help") {
+    if env::args(rt)?
+        .nth(1)
+        .is_some_and(|word| word.as_str() == "--help")
+    {
         return Ok(println!(rt; "{HELP}")?);
     }
     let lists = lists_asked(rt)?;

@@ -14,8 +14,9 @@ fn action_of(pre: &[u8], add: &[u8], del: &[u8]) -> Result<Action, Fail> {
 }
 
 fn task_of(facts: u8, actions: Vec<Action>, goal: &[u8], start: &[u8]) -> Result<Task, Fail> {
-    Task::new(facts, actions, list_of(goal)?, list_of(start)?)
-        .map_err(|_| Fail::new("parts that should make a task"))
+    Task::new(facts, actions, list_of(goal)?, list_of(start)?).map_err(|_| Fail::new(
+        "parts that should make a task",
+    ))
 }
 
 // Actions 0 → 1 and 1 → 2, each deleting what it needs.
