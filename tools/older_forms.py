@@ -136,7 +136,7 @@ def four():
                 yield path, n, c.strip()
             elif re.search(r"\bfn (tell\w*|meaning|unit|\w*_words)\(", c):
                 yield path, n, "printing: " + c.strip()
-            elif re.search(r"struct \w+\(pub ", c):
+            elif re.search(r"struct \w+(<[^>]*>)?\(pub ", c):
                 yield path, n, "wrapper: " + c.strip()
 
 
