@@ -6,7 +6,7 @@ use Rattle.figure.specs.declared.cost.Cost.{Cost}
 use Rattle.figure.specs.declared.figure.Figure.{Figure}
 use Rattle.figure.specs.declared.figure.Figure.TheVariants.{None, Number}
 use Rattle.std.specs.Ordering.{ord_min, ord_max}
-use Rattle.figure.specs.contracts.figure.FigurePartialEq.TheImpl as equality
+use Rattle.figure.specs.contracts.values.FigurePartialEq.TheImpl as equality
 use Rattle.figure.specs.contracts.figure.FigureOrd.TheImpl as order
 use Rattle.figure.specs.Ranks.{rank, top}
 

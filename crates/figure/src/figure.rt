@@ -2,8 +2,8 @@
 // No Option, whose None is below every number: minima and orders would each have to be turned by hand.
 use crate::cost::Cost;
 
-// None stands last: the derived order goes by the place in this list, then by the number.
-#[derive(Debug, Clone, Copy, Default, PartialEq, Eq, PartialOrd, Ord)]
+// None stands last: the derived order goes by the place in this list, then by the number. `==` stands in values.
+#[derive(Debug, Clone, Copy, Default, PartialOrd, Ord)]
 pub enum Figure {
     Number(Cost),
     #[default]

@@ -1,8 +1,10 @@
 // Figures and the numbers they stand for.
 ghost use Rattle.std.specs.Prelude.{◌≡◌, ◌+◌, Some, Decides, min, max, nat_eq, nat_le};
-ghost use Rattle.std.specs.Ordering.{ord_min, ord_max};
+ghost use Rattle.std.specs.Ordering.{on, ord_min, ord_max};
 ghost use Rattle.figure.specs.Ranks.{rank, cut, number_of, halved};
 ghost use Rattle.figure.specs.Texts.{printed};
+ghost use Rattle.std.specs.Cmp.Rules.{comparing};
+ghost use Rattle.std.proofs.Common.{rules};
 
 use crate::cost::Cost;
 use crate::figure::Figure;
@@ -34,11 +36,15 @@ impl Figure {
         }
     }
 
-    // Whether this figure is at most the other.
+    // Whether this figure is at most the other. By hand: the derived comparison makes the least of many figures a quarter slower.
     pub fn at_most(self, other: Figure) -> bool
         ensures { result ≡ nat_le (rank self) (rank other) }
     {
-        self <= other
+        match (self, other) {
+            (_, Figure::None) => true,
+            (Figure::None, Figure::Number(_)) => false,
+            (Figure::Number(cost), Figure::Number(bound)) => cost.value <= bound.value,
+        }
     }
 
     // Half of the figure, rounded down; half of none is none.
@@ -52,6 +58,28 @@ impl Figure {
             Figure::None => Figure::None,
         }
     }
+}
+
+// By hand, since a derive promises nothing of ranks, nor that two are one.
+impl PartialEq for Figure {
+    ghost eq = { on rank nat_eq };
+
+    ghost laws = { Prim.search (comparing, rules) };
+
+    fn eq(&self, other: &Figure) -> bool
+        ensures value { result ≡ on rank nat_eq self.now other.now }
+        ensures same { Decides result (self.now ≡ other.now) }
+    {
+        match (*self, *other) {
+            (Figure::Number(cost), Figure::Number(twin)) => cost.value == twin.value,
+            (Figure::None, Figure::None) => true,
+            _ => false,
+        }
+    }
+}
+
+impl Eq for Figure {
+    ghost laws = { Prim.search (comparing, rules) };
 }
 
 impl Add for Figure {

@@ -1,7 +1,7 @@
 use Rattle.std.proofs.Common.{◌+◌, Bool, List, get_or, set, sym, ◌∙◌, subst, arith}
 use Rattle.std.proofs.lemmas.Bool.{not-true, not-false}
 use Rattle.figure.specs.declared.figure.Figure.{Figure}
-use Rattle.figure.specs.contracts.figure.FigurePartialEq.TheImpl as equality
+use Rattle.figure.specs.contracts.values.FigurePartialEq.TheImpl as equality
 use Rattle.figure.proofs.Same.{told_equal}
 use Rattle.solve.specs.Systems.{equations_of}
 use Rattle.solve.specs.Tables.{Swept}

@@ -9,11 +9,11 @@ use Rattle.figure.specs.Ranks.{rank}
 use Rattle.model.specs.Figures.{table, least}
 use Rattle.strips.specs.Tasks.{problem}
 use Rattle.solve.proofs.Items.{adder_value, adder_low, least_push, least_adders}
-use Rattle.solve.proofs.equations.Equations.least_adder.Goals as goal
+use Rattle.solve.proofs.side.least_adder.Goals as goal
 
 pub returns : goal.returns
-returns g c =
-    let p = problem c.args.self.now.task.now in
+returns c =
+    let p = problem c.args.task.now in
     let y = adder_value p (table c.args.figures.now) c.args.fact in
     let n = c.action_count.result in
     let J : List ℕ → Figure → Type 0 = λ ks best. least y ks ≡ rank best in
