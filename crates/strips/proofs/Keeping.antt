@@ -3,15 +3,13 @@ use Rattle.std.proofs.Common.{◌≡◌, ℕ, zero, suc, ◌+◌, ◌<◌, ◌�
 use mathlib.Core.Path.{fun_ext}
 use lib.ListN.{length-map}
 use Rattle.std.specs.List.{AllByRecursion, position_or_len}
-use Rattle.std.proofs.lemmas.List.{get_or_past}
+use Rattle.std.proofs.lemmas.List.{get_or_past, get_or-map}
 use Rattle.std.proofs.lemmas.Bool.Decides.{nat_tests}
 use Rattle.std.proofs.lemmas.Bool.{ltb-true, ltb-false, and_parts, cases_lt, eq-eqb, false≢true}
-use Rattle.model.specs.Strips.{Problem, Action as Means, Rising, Listed, Fits, Lawful, State as Facts, Stands, step, action, no_action, changed, these}
+use Rattle.model.specs.Strips.{Problem, Action as Means, Rising, Listed, Fits, Lawful, State as Facts, Stands, step, action, no_action, changed, these, names}
 use Rattle.std.specs.List.{slice_get}
 use Rattle.std.proofs.lemmas.Option.{slice_get-get_or, slice_get_within, get_or_from_slice_get}
 use Rattle.strips.specs.declared.list.FactList.{FactList}
-use Rattle.strips.specs.declared.fact_set.FactSet.{FactSet}
-use Rattle.strips.specs.Standing.{standing}
 use Rattle.strips.specs.declared.action.Action.{Action}
 use Rattle.strips.specs.declared.task.Task.{Task}
 use Rattle.strips.specs.Lists.{listed}
@@ -75,13 +73,16 @@ known p k a e = (slice_get_within _ k a e, get_or_from_slice_get _ k a no_action
 pub beyond : (p : Problem) (k : ℕ) → slice_get p.actions k ≡ None → length p.actions ≤ k
 beyond p k e = ⊎_elim (λ lt. absurd (none_of (sym (slice_get-get_or p.actions k no_action lt) ∙ e))) (λ le. le) (cases_lt k (length p.actions))
 
--- the state beside a list covers it
-module _ (s : Facts) {n : ℕ} (m : FactSet n) where
-  pub covers_every : Covers s (standing m.state) → AllByRecursion (Stands s) (listed m.list)
-  covers_every h = stand_named s (listed m.list) (λ f e. h f (m.same f ∙ e))
+pub action_at : (t : Task) (k : ℕ) (a : Action) → k < length (vec_items t.actions) → a ≡ get_or (vec_items t.actions) k a → action (problem t) k ≡ action_of a
+action_at t k a lt e = get_or-map action_of (vec_items t.actions) k a no_action lt ∙ ap action_of (sym e)
 
-  pub every_covers : AllByRecursion (Stands s) (listed m.list) → Covers s (standing m.state)
-  every_covers h f e = named_stand s (listed m.list) h f (sym (m.same f) ∙ e)
+-- the state beside a list covers it
+module _ (s : Facts) (m : Facts) (l : List ℕ) (same : (f : ℕ) → m f ≡ names l f) where
+  pub covers_every : Covers s m → AllByRecursion (Stands s) l
+  covers_every h = stand_named s l (λ f e. h f (same f ∙ e))
+
+  pub every_covers : AllByRecursion (Stands s) l → Covers s m
+  every_covers h f e = named_stand s l h f (sym (same f) ∙ e)
 
 -- past the actions nothing changes
 pub step_past : (p : Problem) (k : ℕ) (s : Facts) → length p.actions ≤ k → s ≡ step p k s

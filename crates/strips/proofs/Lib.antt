@@ -1,4 +1,5 @@
 pub mod Places
+pub mod Tails
 pub mod Taking
 pub mod Words
 pub mod Naming

@@ -32,9 +32,9 @@ same_action a b =
     (Decides-and _ _ (same_list _ _) (Decides-and _ _ (same_list _ _) (same_list _ _)))
 
 pub same_task : (s t : Task) (r : Bool)
-    → r ≡ (nat_eq s.facts t.facts && (pointwise alike (vec_items s.actions) (vec_items t.actions) && (pointwise nat_eq (listed s.goal.list) (listed t.goal.list) && pointwise nat_eq (listed s.start) (listed t.start))))
+    → r ≡ (nat_eq s.facts t.facts && (pointwise nat_eq (listed s.goal.list) (listed t.goal.list) && (pointwise nat_eq (listed s.start) (listed t.start) && pointwise alike (vec_items s.actions) (vec_items t.actions))))
     → Decides r (problem s ≡ problem t)
 same_task s t r e =
     Decides-at _ _ e
-    (Decides-like _ (λ p i. record { facts = p.0 i; actions = p.1.0 i; goal = p.1.1.0 i; start = p.1.1.1 i }) (λ e. (ap (λ m. m.facts) e, (ap (λ m. m.actions) e, (ap (λ m. m.goal) e, ap (λ m. m.start) e))))
-    (Decides-and _ _ (Decides-eqb _ _) (Decides-and _ _ (same_map alike action_of same_action _ _) (Decides-and _ _ (same_list _ _) (same_list _ _)))))
+    (Decides-like _ (λ p i. record { facts = p.0 i; actions = p.1.1.1 i; goal = p.1.0 i; start = p.1.1.0 i }) (λ e. (ap (λ m. m.facts) e, (ap (λ m. m.goal) e, (ap (λ m. m.start) e, ap (λ m. m.actions) e))))
+    (Decides-and _ _ (Decides-eqb _ _) (Decides-and _ _ (same_list _ _) (Decides-and _ _ (same_list _ _) (same_map alike action_of same_action _ _)))))

@@ -56,14 +56,14 @@ module _ (ws : List ℕ) (f : ℕ) (lt : f / 64 < length ws) where
   remove_word v e small =
       let w = get_or ws (f / 64) 0 in
       put_word ws f (bit_and w (2 ^ 64 - 1 - v)) (λ a b. not a && b) lt (λ b. refl) (λ k l.
-      and_bit w (2 ^ 64 - 1 - v) k ∙ ap (λ b. bit w k && b) (not_bit v k l small) ∙ and_comm (bit w k) (not (bit v k))
+      and_bit w (2 ^ 64 - 1 - v) k ∙ ap (λ b. bit w k && b) (not_bit 64 v k l small) ∙ and_comm (bit w k) (not (bit v k))
       ∙ ap (λ n. not (bit n k) && bit w k) e ∙ ap (λ b. not b && bit w k) (one_bit (f % 64) k))
 
 -- one word of a change
 pub change_word : (s d a j : ℕ) → d < 2 ^ 64 → j < 64 → bit (bit_or (bit_and s (2 ^ 64 - 1 - d)) a) j ≡ ((bit s j && not (bit d j)) || bit a j)
 change_word s d a j small lt =
     or_bit (bit_and s (2 ^ 64 - 1 - d)) a j
-    ∙ ap (λ b. b || bit a j) (and_bit s (2 ^ 64 - 1 - d) j ∙ ap (λ b. bit s j && b) (not_bit d j lt small))
+    ∙ ap (λ b. b || bit a j) (and_bit s (2 ^ 64 - 1 - d) j ∙ ap (λ b. bit s j && b) (not_bit 64 d j lt small))
 
 pub past_word : (ws : List ℕ) (f : ℕ) → length ws ≡ 4 → 4 ≤ f / 64 → inside ws f ≡ false
 past_word ws f e h = ap (λ n. bit n (f % 64)) (get_or_past ws (f / 64) 0 (omega arith)) ∙ no_bit (f % 64)

@@ -10,12 +10,13 @@ use crate::list::FactList;
 use crate::state::State;
 use std::alloc::{AllocError, Global};
 
+// The actions stand last: `==` goes by this order, and compares the most only where all else is the same.
 #[derive(PartialEq, Eq, Drop)]
 pub struct Task {
     facts: u8,
-    actions: Vec<Action>,
     goal: FactSet<255>,
     start: FactList<255>,
+    actions: Vec<Action>,
     ghost some: { 0 < facts },
     ghost low: { facts ≤ 255 },
     ghost few: { vec_len actions ≤ 512 },

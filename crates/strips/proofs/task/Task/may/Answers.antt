@@ -4,6 +4,7 @@ use Rattle.std.proofs.lemmas.Bool.{false≢true}
 use Rattle.std.proofs.lemmas.Bool.Decides.{Decides-like}
 use Rattle.model.specs.Strips.{May, Stands}
 use Rattle.strips.specs.Standing.{standing}
+use Rattle.strips.specs.Lists.{listed}
 use Rattle.strips.specs.Actions.{action_of}
 use Rattle.strips.specs.Tasks.{problem}
 use Rattle.strips.proofs.Keeping.{covers_every, every_covers, known, beyond}
@@ -15,8 +16,8 @@ returns-in-Some c =
     let s = standing c.args.state.now in let pre = c.in-Some.action.now.preconditions in
     let k = known (problem c.args.self.now) c.args.action (action_of c.in-Some.action.now) c.in-Some.ensures in
     Decides-like _
-    (λ h. (k.0, subst (λ m. AllByRecursion (Stands s) m.pre) (sym k.1) (covers_every s pre h)))
-    (λ m. every_covers s pre (subst (λ n. AllByRecursion (Stands s) n.pre) k.1 m.1))
+    (λ h. (k.0, subst (λ m. AllByRecursion (Stands s) m.pre) (sym k.1) (covers_every s (standing pre.state) (listed pre.list) pre.same h)))
+    (λ m. every_covers s (standing pre.state) (listed pre.list) pre.same (subst (λ n. AllByRecursion (Stands s) n.pre) k.1 m.1))
     c.covers.ensures
 
 pub returns-in-None : goal.returns-in-None
