@@ -19,10 +19,9 @@ pub struct TableQueue<K: Key> {
 fn better<K: Key>(best: Option<(usize, K)>, item: usize, key: K) -> Option<(usize, K)>
     ensures { Better K.Key.leq best item key result }
 {
-    if best.is_some_and(|found| found.1.at_most(key)) {
-        best
-    } else {
-        Some((item, key))
+    match best {
+        Some(found) if found.1.at_most(key) => Some(found),
+        _ => Some((item, key)),
     }
 }
 
