@@ -1,4 +1,6 @@
 // What is kept of earlier asks.
+ghost use Rattle.std.specs.Prelude.{◌≤◌, length};
+
 use arrayvec::ArrayVec;
 use figure::figure::Figure;
 use strips::state::State;
@@ -15,4 +17,5 @@ pub struct Kept {
 pub struct Keeping<E> {
     pub(crate) inner: E,
     pub(crate) latest: ArrayVec<Kept, 16>,
+    ghost few: { length latest.items ≤ 16 },
 }

@@ -7,7 +7,7 @@ ghost use Rattle.estimator.specs.Keeps.{kept, Asked, Agreeing};
 
 use crate::estimator::Estimator;
 use crate::keeping::{Keeping, Kept};
-use crate::places::place;
+use crate::places::{place, to_front};
 use arrayvec::ArrayVec;
 use figure::figure::Figure;
 use strips::state::State;
@@ -43,9 +43,9 @@ impl<E: Estimator> Estimator for Keeping<E> {
         ensures keeps { Asked (kept self.old) state.now result (kept self.new) }
     {
         if let Some(at) = place(&self.latest, state) {
-            let kept = self.latest.remove(at);
-            self.latest.insert(0, kept);
-            return kept.figure;
+            let figure = self.latest[at].figure;
+            to_front(&mut self.latest, at);
+            return figure;
         }
         let figure = self.inner.estimate(state);
         self.latest.truncate(15);
