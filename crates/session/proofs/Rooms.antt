@@ -1,5 +1,5 @@
 -- Dockets kept ready. Assumes nothing.
-use Rattle.std.proofs.Common.{◌≡◌, ℕ, ◌+◌, Bool, true, false, cond, List, [], ◌∷◌, ◌++◌, length, vec_len, Vec, sym, ap, ◌∙◌, subst, arith}
+use Rattle.std.proofs.Common.{◌≡◌, ℕ, ◌+◌, ◌≤◌, Bool, true, false, cond, List, [], ◌∷◌, ◌++◌, length, vec_len, Vec, sym, ap, ◌∙◌, subst, arith}
 use Rattle.std.specs.declared.alloc.Global.{Global}
 use Rattle.std.specs.List.{AllByRecursion, fold, count_by}
 use Rattle.std.proofs.lemmas.List.{length_push}
@@ -7,7 +7,14 @@ use Rattle.std.proofs.ByRecursion.{All-push}
 use Rattle.settling.specs.declared.row.DocketRow.{DocketRow}
 use Rattle.session.specs.declared.call.Call.{Call}
 use Rattle.session.specs.declared.call.Call.TheVariants.{Enter, Strike, Settle, Figure, Goal}
-use Rattle.session.specs.Rooms.{settles, Stocked}
+use Rattle.session.specs.Rooms.{weight, settles, Stocked}
+
+pub weight_low : (c : Call) → weight c ≤ 1
+weight_low (Enter f) = omega arith
+weight_low (Strike f) = omega arith
+weight_low (Settle n) = omega arith
+weight_low (Figure i) = omega arith
+weight_low Goal = omega arith
 
 abbrev pub is_settle : Call → Bool
 is_settle (Settle n) = true

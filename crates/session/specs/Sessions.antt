@@ -16,6 +16,7 @@ use Rattle.model.specs.Docket.{Docket}
 use Rattle.strips.specs.declared.state.State.{State}
 use Rattle.strips.specs.Standing.{standing}
 use Rattle.strips.specs.Tasks.{problem}
+use Rattle.links.specs.Indexes.{Linked}
 use Rattle.settling.specs.declared.row.DocketRow.{DocketRow}
 use Rattle.settling.specs.Holding.{Keeping, row_of}
 use Rattle.session.specs.declared.fault.SessionFault.{SessionFault}
@@ -40,9 +41,10 @@ module _ {R Q : Type 0} (result : R → Rule) (sound : Q → Type 0) (pairs : Q 
   abbrev pub equations_in : Session R Q → Table → Table
   equations_in s = equations (result s.base.rule) (task_of s) (facts_of s)
 
-  -- the queue is sound, it holds exactly the inconsistent items under their keys, and settled figures are the table's
+  -- the queue is sound, the indexes are the task's, the queue holds exactly the inconsistent items under their keys, and settled figures are the table's
   pub record Sound (s : Session R Q) : Type 0 where
     pub queue : sound s.held.queue
+    pub linked : Linked (task_of s) s.base.links
     pub keeping : Keeping result pairs s.base s.state s.held
     pub solved : s.settled ≡ true → Solves (equations_in s) (table (figures_of s))
 

@@ -1,5 +1,5 @@
 // Opening and closing sessions.
-ghost use Rattle.std.specs.Prelude.{◌≡◌, true, IfOk, MatchResult};
+ghost use Rattle.std.specs.Prelude.{◌≡◌, IfOk, MatchResult};
 ghost use Rattle.model.specs.Runs.{fresh};
 ghost use Rattle.strips.specs.Tasks.{problem};
 ghost use Rattle.session.specs.Openings.{ready, Why, Indexed, Opened, Refusing};
@@ -66,7 +66,7 @@ impl<R: CostRule, Q: Queue<Key = Figure>> Session<R, Q> {
 
     // Opens a session on a task with its indexes.
     fn begin(heap: Global, base: Base<R>, queue: Q) -> Result<Session<R, Q>, Unopened<R, Q>>
-        requires { ready (problem base.task) (Q.Queue.pairs queue) ≡ true }
+        requires { Indexed (problem base.task) (Q.Queue.pairs queue) base.links }
         ensures opens { MatchResult result (Opened Q.Queue.pairs base.task base.rule queue) (Refusing Q.Queue.pairs base.task base.rule queue) }
         ensures led { Q.Queue.sound queue → IfOk result (Led R.CostRule.rule Q.Queue.sound Q.Queue.pairs (fresh (problem base.task))) }
     {

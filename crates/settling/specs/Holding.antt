@@ -1,7 +1,7 @@
 -- What is promised of held figures. Assumes nothing.
 --
 --   equations_of           what the equations make of a table, for a task, a rule and a state
---   Fitting                there is a figure for each item
+--   Fitting                the indexes are the task's, and there is a figure for each item
 --   Keeping                the right-hand sides are right and the queue is exact
 --   Refreshed, Refreshes   one item, or some, are made right
 --   Turned                 what one turn of a settling answers and leaves
@@ -18,6 +18,7 @@ use Rattle.model.specs.Settling.{Step}
 use Rattle.strips.specs.declared.state.State.{State}
 use Rattle.strips.specs.Standing.{standing}
 use Rattle.strips.specs.Tasks.{problem}
+use Rattle.links.specs.Indexes.{Linked}
 use Rattle.session_theory.specs.Kept.{Kept, Stale}
 use Rattle.settling.specs.declared.base.Base.{Base}
 use Rattle.settling.specs.declared.held.HeldFigures.{HeldFigures}
@@ -31,8 +32,9 @@ row_of w = record { item = w.item; before = w.before; after = w.after }
 abbrev pub equations_of : {R : Type 0} (result : R → Rule) → Base R → State → Table → Table
 equations_of result base state = equations (result base.rule) (problem base.task) (standing state)
 
--- there is a figure for each item of the task, whose indexes the base has
+-- the indexes are the task's, and there is a figure for each item
 pub record Fitting {R Q : Type 0} (base : Base R) (held : HeldFigures Q) : Type 0 where
+  pub linked : Linked (problem base.task) base.links
   pub long : vec_len held.figures ≡ items (problem base.task)
 
 module _ {R Q : Type 0} (result : R → Rule) (pairs : Q → List (Option Figure)) (base : Base R) (state : State) where

@@ -1,7 +1,4 @@
 // What never changes while figures are held.
-ghost use Rattle.strips.specs.Tasks.{problem};
-ghost use Rattle.links.specs.Indexes.{Linked};
-
 use links::links::Links;
 use strips::task::Task;
 
@@ -11,5 +8,4 @@ pub struct Base<R> {
     pub task: Task,
     pub rule: R,
     pub links: Links,
-    ghost linked: { Linked (problem task) links },
 }

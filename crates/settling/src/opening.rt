@@ -3,6 +3,7 @@ ghost use Rattle.std.specs.Prelude.{◌≡◌, ◌≤◌, true, length, replicat
 ghost use Rattle.figure.specs.declared.figure.Figure.TheVariants.{None};
 ghost use Rattle.model.specs.Strips.{items};
 ghost use Rattle.strips.specs.Tasks.{problem};
+ghost use Rattle.links.specs.Indexes.{Linked};
 ghost use Rattle.queue.specs.Queues.{vacant};
 ghost use Rattle.settling.specs.Holding.{Refreshes, Keeping};
 
@@ -36,7 +37,7 @@ impl<Q: Queue<Key = Figure>> HeldFigures<Q> {
     ) -> Result<HeldFigures<Q>, Q>
         ensures held { MatchResult result (λ h. h.figures.items ≡ replicate (items (problem base.now.task)) None) (λ q. q ≡ queue) }
         ensures keeps { Q.Queue.sound queue → IfOk result (λ h. Q.Queue.sound h.queue) }
-        ensures after { vacant (Q.Queue.pairs queue) ≡ true → items (problem base.now.task) ≤ length (Q.Queue.pairs queue) → IfOk result (Keeping R.CostRule.rule Q.Queue.pairs base.now state.now) }
+        ensures after { Linked (problem base.now.task) base.now.links → vacant (Q.Queue.pairs queue) ≡ true → items (problem base.now.task) ≤ length (Q.Queue.pairs queue) → IfOk result (Keeping R.CostRule.rule Q.Queue.pairs base.now state.now) }
     {
         let count = base.task.item_count();
         let Ok(figures) = vec![in heap; Figure::None; count] else {

@@ -2,6 +2,8 @@
 ghost use Rattle.std.specs.Prelude.{◌≡◌};
 ghost use Rattle.figure.specs.Ranks.{rank};
 ghost use Rattle.model.specs.Figures.{table, least};
+ghost use Rattle.strips.specs.Tasks.{problem};
+ghost use Rattle.links.specs.Indexes.{Linked};
 ghost use Rattle.session_theory.specs.Kept.{moved};
 ghost use Rattle.settling.specs.Holding.{equations_of};
 
@@ -34,7 +36,7 @@ pub(crate) fn side_of<R: CostRule>(
     figures: &[Figure],
     item: usize,
 ) -> Figure
-    ensures { rank result ≡ equations_of R.CostRule.rule base.now state.now (table figures.now) item }
+    ensures { Linked (problem base.now.task) base.now.links → rank result ≡ equations_of R.CostRule.rule base.now state.now (table figures.now) item }
 {
     let facts = usize::from(base.task.facts());
     if item < facts {

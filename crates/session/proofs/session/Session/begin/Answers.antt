@@ -24,13 +24,14 @@ returns-in-Ok g c =
     let p = problem c.args.base.task in
     let e = c.in-Ok.ensures in
     let pairs = g.Q.Queue.pairs c.args.queue in
-    let fit = both_true (vacant pairs) (leb (items p) (length pairs)) c.requires in
+    let fit = both_true (vacant pairs) (leb (items p) (length pairs)) c.requires.0 in
     record {
-      opens = record { was_ready = c.requires; on_task = refl; by_rule = refl; facts = c.start_state-state.ensures; figures = e.held; settled = refl };
+      opens = record { was_ready = c.requires.0; on_task = refl; by_rule = refl; facts = c.start_state-state.ensures; figures = e.held; settled = refl };
       led = λ sd. record {
         sound = record {
           queue = e.keeps sd;
-          keeping = e.after fit.0 (leb-true (items p) (length pairs) fit.1);
+          linked = c.requires.1;
+          keeping = e.after c.requires.1 fit.0 (leb-true (items p) (length pairs) fit.1);
           solved = λ h. absurd (false≢true h);
         };
         facts = c.start_state-state.ensures;
@@ -41,6 +42,6 @@ returns-in-Ok g c =
 
 pub returns-in-Err : goal.returns-in-Err
 returns-in-Err g c = record {
-  opens = record { why = c.requires; same_task = refl; same_rule = refl; same_queue = c.in-Err.ensures.held };
+  opens = record { why = c.requires.0; same_task = refl; same_rule = refl; same_queue = c.in-Err.ensures.held };
   led = λ sd. tt;
 }

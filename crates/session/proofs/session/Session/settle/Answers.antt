@@ -26,14 +26,14 @@ returns g c =
     let n = c.settle-n.result in
     let last = c.settle-n.new.docket in
     let enough : 2 * items (problem s.base.task) ≤ length d = omega (arith, c.if-docket-rows_needed.false, c.rows_needed.ensures) in
-    let done = λ (sd : Sound g.R.CostRule.rule g.Q.Queue.sound g.Q.Queue.pairs s). e.after sd.queue (record { long = s.long }) sd.keeping enough in
+    let done = λ (sd : Sound g.R.CostRule.rule g.Q.Queue.sound g.Q.Queue.pairs s). e.after sd.queue (record { linked = sd.linked; long = s.long }) sd.keeping enough in
     record {
       answer = record { enough = enough; within = e.within; later = e.later; base = refl; state = refl; settled = refl };
-      keeps = λ sd. record { queue = e.keeps sd.queue; keeping = (done sd).keeping; solved = λ _. (done sd).solves };
+      keeps = λ sd. record { queue = e.keeps sd.queue; linked = sd.linked; keeping = (done sd).keeping; solved = λ _. (done sd).solves };
       figures = λ sd. ((done sd).solves, (done sd).docket);
       law =
           settle_goes g.R.CostRule.rule g.Q.Queue.sound g.Q.Queue.pairs s _
-          (λ sd. record { queue = e.keeps sd.queue; keeping = (done sd).keeping; solved = λ _. (done sd).solves })
+          (λ sd. record { queue = e.keeps sd.queue; linked = sd.linked; keeping = (done sd).keeping; solved = λ _. (done sd).solves })
           d last (length d) (Ok n)
           (record { enough = enough; within = e.within; later = e.later; base = refl; state = refl; settled = refl })
           (λ sd. ((done sd).solves, (done sd).docket)) (omega arith) (λ _. refl);

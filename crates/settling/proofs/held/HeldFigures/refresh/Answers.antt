@@ -26,7 +26,7 @@ returns-then-item-len g c =
       held = refl;
       after = λ fit stale t.
           stale_more F held right (pairs h.queue) stale t q (set right q side) (pairs c.adjust.new.queue) side within long
-          (c.side_of-side.ensures ∙ ap (λ l. F (table l) q) c.deref.ensures.value) refl
+          (c.side_of-side.ensures fit.linked ∙ ap (λ l. F (table l) q) c.deref.ensures.value) refl
           (c.adjust.ensures.after (omega (arith, within, t.room)) ∙ ap (λ f. set (pairs h.queue) q (due f side)) (get_or_read held q c.index.result.now within c.index.ensures None));
     }
 

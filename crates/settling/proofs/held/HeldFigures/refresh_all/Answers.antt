@@ -22,7 +22,7 @@ loop-item-preserved g c =
       λ fit t.
           stale_weaker F (vec_items m.figures) (vec_items m.sides) (g.Q.Queue.pairs m.queue) (struck x (names (drop i l))) (names (drop (i + 1) l))
           (λ r a. struck_first x (drop (i + 1) l) r (subst (λ v. struck x (names v) r ≡ true) cut a))
-          (e.after (record { long = ap (λ v. vec_len v) inv.1 ∙ fit.long }) (names (drop i l)) (inv.2 fit t)),
+          (e.after (record { linked = fit.linked; long = ap (λ v. vec_len v) inv.1 ∙ fit.long }) (names (drop i l)) (inv.2 fit t)),
     )
 
 pub returns : goal.returns

@@ -26,7 +26,7 @@ loop-item-preserved g c =
       e.held ∙ inv.1,
       λ fit t.
           stale_weaker F (vec_items m.figures) (vec_items m.sides) (g.Q.Queue.pairs m.queue) (struck i (λ r. leb i r)) (λ r. leb (i + 1) r) (struck_from i)
-          (e.after (record { long = ap (λ v. vec_len v) inv.1 ∙ fit.long }) (λ r. leb i r) (inv.2 fit t)),
+          (e.after (record { linked = fit.linked; long = ap (λ v. vec_len v) inv.1 ∙ fit.long }) (λ r. leb i r) (inv.2 fit t)),
     )
 
 pub returns : goal.returns

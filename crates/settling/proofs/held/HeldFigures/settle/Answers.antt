@@ -30,7 +30,7 @@ loop-n-preserved g c =
       (λ s. e.keeps (inv.2 s)),
       λ s fit kept.
           let was = inv.3 s fit kept in
-          let m = e.after (inv.2 s) (record { long = inv.1 ∙ fit.long }) was.0 in
+          let m = e.after (inv.2 s) (record { linked = fit.linked; long = inv.1 ∙ fit.long }) was.0 in
           (m.keeping, rows_more F (vec_items h.figures) (vec_items k.figures) (vec_items c.turn.new.self.figures) d n w was.1 (omega (arith, c.loop-n-test.true, c.loop-n.auto.docket)) m.step m.before m.after),
     )
 
@@ -53,7 +53,7 @@ returns-in_default-clause-after g c = λ s fit kept enough.
     let base = c.args.base.now in
     let F = equations_of g.R.CostRule.rule base c.args.state.now in
     let was = inv.3 s fit kept in
-    let r = c.in_default.ensures.after (inv.2 s) (record { long = inv.1 ∙ fit.long }) was.0 in
+    let r = c.in_default.ensures.after (inv.2 s) (record { linked = fit.linked; long = inv.1 ∙ fit.long }) was.0 in
     let doc = run_docket (g.R.CostRule.rule base.rule) (g.met.R.CostRule.lawful base.rule) (problem base.task) (standing c.args.state.now) (vec_items h.figures) (vec_items k.figures) d n (omega (arith, fit.long, h.figures.ok.0)) was.1 in
     record {
       solves = subst (λ (v : List Figure). Solves F (table v)) (sym r.after) r.solves;

@@ -62,9 +62,9 @@ returns-clause-after g c = λ sd fit k.
       before = before;
       after = ap vec_items c.refresh_all.ensures.held;
       keeping =
-          c.refresh_all.ensures.after (record { long = fit.long })
+          c.refresh_all.ensures.after (record { linked = fit.linked; long = fit.long })
           (turned F held right (pairs h.queue) (pairs c.take.new.self) (pairs c.adjust.new.queue) q f (names c.readers.result.now) within k e.after.2
           (c.adjust.ensures.after (omega (arith, within, k.room, ap length e.after.2 ∙ length-set (pairs h.queue) q option.None)) ∙ ap (λ v. set (pairs c.take.new.self) q (due f v)) side)
           (read_stale rule p (standing c.args.state.now) held q f c.readers.result.now
-          (λ r a. ap (λ (l : List ℕ). names l r) c.readers.ensures ∙ base.linked.readers q r (omega (arith, within, fit.long, h.figures.ok.0)) a)));
+          (λ r a. ap (λ (l : List ℕ). names l r) c.readers.ensures ∙ fit.linked.readers q r (omega (arith, within, fit.long, h.figures.ok.0)) a)));
     }
