@@ -1,9 +1,12 @@
 -- A heap as its vectors hold it. Assumes nothing.
-use Rattle.std.proofs.Common.{◌≡◌, ℕ, zero, suc, ◌<◌, ◌≤◌, Bool, List, length, get_or, replicate, is_some, None, Option, vec_items, sym, refl, ap, ◌∙◌, subst, arith, le-ltb}
-use Rattle.std.proofs.lemmas.List.{with_items_is, get_or_read}
+use Rattle.std.proofs.Common.{◌≡◌, ℕ, zero, suc, ◌<◌, ◌≤◌, Bool, false, List, length, get_or, set, replicate, is_some, Some, None, Option, Vec, vec_items, sym, refl, ap, ◌∙◌, subst, arith, le-ltb}
+use lib.ListN.{length-replicate}
+use lib.Seq.{set-get_or}
+use Rattle.std.proofs.lemmas.List.{with_items_is, get_or_read, get_or-replicate}
 use Rattle.std.specs.Vec.{with_items}
 use Rattle.heap_theory.specs.Heaps.{Shape, Paired, Swapped, Held, slot_key, option_leq}
-use Rattle.queue.specs.Queues.{at}
+use Rattle.queue.specs.Queues.{at, held}
+use Rattle.queue.proofs.Tables.{differ}
 use Rattle.heap.specs.Meaning.{key_in}
 use Rattle.heap.specs.declared.store.HeapQueue.{HeapQueue}
 
@@ -62,3 +65,47 @@ module _ {K : Type 0} where
   pub place_swapped : (h : HeapQueue K) (item : ℕ) (slots : List ℕ) {slot last : ℕ} {lent : List ℕ} → lent ≡ vec_items h.slots → slot ≡ get_or (vec_items h.places) item 0 → Swapped (λ i. get_or lent i 0) (λ i. get_or slots i 0) slot last → Swapped (λ i. get_or (vec_items h.slots) i 0) (λ i. get_or slots i 0) (get_or (vec_items h.places) item 0) last
   place_swapped h item slots {slot} {last} {lent} was here s =
       subst (λ l. Swapped (λ i. get_or l i 0) (λ i. get_or slots i 0) (get_or (vec_items h.places) item 0) last) was (subst (λ p. Swapped (λ i. get_or lent i 0) (λ i. get_or slots i 0) p last) here s)
+
+module _ {K : Type 0} (P : List (Option K) → List ℕ → List ℕ → Type 0) where
+  -- what holds of three lists holds of lists that equal them
+  pub of_same : {keys ks : List (Option K)} {slots ss places ps : List ℕ} → ks ≡ keys → ss ≡ slots → ps ≡ places → P keys slots places → P ks ss ps
+  of_same {keys} {ks} {slots} {ss} {places} {ps} k s p o =
+      subst (λ v. P v ss ps) (sym k) (subst (λ v. P keys v ps) (sym s) (subst (λ v. P keys slots v) (sym p) o))
+
+  -- .. and of vectors that were lent as slices and hold them now
+  pub of_refilled : {Z : Type 0} (kv : Vec (Option K) Z) (sv pv : Vec ℕ Z) (keys : List (Option K)) (slots places : List ℕ) → length keys ≡ kv.len → length slots ≡ sv.len → length places ≡ pv.len → P keys slots places → P (with_items kv keys).items (with_items sv slots).items (with_items pv places).items
+  of_refilled kv sv pv keys slots places k s p o = of_same (with_items_is kv keys k) (with_items_is sv slots s) (with_items_is pv places p) o
+
+module _ {K : Type 0} where
+  none_of : (o : Option K) → is_some o ≡ false → o ≡ None
+  none_of None e = refl
+  none_of (Some x) e = absurd (differ e)
+
+  -- removing what is not held changes nothing
+  pub set_none : (t : List (Option K)) (i : ℕ) → held t i ≡ false → t ≡ set t i None
+  set_none t i e = sym (ap (set t i) (sym (none_of (at t i) e)) ∙ set-get_or t i None)
+
+  pub root_read : {keys : List (Option K)} {slots places : List ℕ} {size : ℕ} (item : ℕ) → Shape keys slots places size → 0 < size → item ≡ get_or slots 0 item → item ≡ get_or slots 0 0
+  root_read {slots = slots} item o h e =
+      let fits = o.fits in
+      let long = o.paired.slots_long in
+      get_or_read slots 0 item (omega arith) e 0
+
+  -- nothing is held, and each item stands at its own number
+  pub shape_fresh : (keys : List (Option K)) (slots places : List ℕ) (n : ℕ) → keys ≡ replicate n None → length slots ≡ n → ((k : ℕ) → k < n → get_or slots k 0 ≡ k) → length places ≡ n → ((k : ℕ) → k < n → get_or places k 0 ≡ k) → Shape keys slots places 0
+  shape_fresh keys slots places n ks sl ss pl ps =
+      let long : length keys ≡ n = ap length ks ∙ length-replicate n None in
+      record {
+        fits = omega arith;
+        paired = subst (Paired slots places) (sym long) (record {
+          slots_long = sl;
+          places_long = pl;
+          slot_within = λ i h. subst (λ v. v < n) (sym (ss i h)) h;
+          slot_back = λ i h. ap (λ v. get_or places v 0) (ss i h) ∙ ps i h;
+          place_within = λ i h. subst (λ v. v < n) (sym (ps i h)) h;
+          place_back = λ i h. ap (λ v. get_or slots v 0) (ps i h) ∙ ss i h;
+        });
+        held = λ i h.
+            let low : i < n = subst (λ v. i < v) long h in
+            ap is_some (ap (λ t. at t (get_or slots i 0)) ks ∙ ap (at (replicate n None)) (ss i low) ∙ get_or-replicate n i None None low) ∙ sym (le-ltb i 0 (omega arith));
+      }

@@ -1,6 +1,6 @@
 -- What an added, re-keyed or removed key does to heap order. Assumes nothing.
-use Rattle.std.proofs.Common.{◌≡◌, ℕ, zero, suc, ◌+◌, ◌-◌, ◌/◌, ◌<◌, ◌≤◌, Bool, true, List, length, get_or, set, None, Option, sym, refl, ap, ◌∙◌, subst, ⊎_elim, arith, get_or-set_other, get_or-set_same}
-use Rattle.std.proofs.lemmas.Bool.{cases_eq}
+use Rattle.std.proofs.Common.{◌≡◌, ℕ, zero, suc, ◌+◌, ◌-◌, ◌/◌, ◌<◌, ◌≤◌, Bool, true, ltb, List, length, get_or, set, is_some, Some, None, Option, sym, refl, ap, ◌∙◌, subst, ⊎_elim, arith, get_or-set_other, get_or-set_same}
+use Rattle.std.proofs.lemmas.Bool.{cases_eq, cases_lt, lt-ltb, le-ltb}
 use Rattle.queue.specs.Queues.{at}
 use Rattle.heap_theory.specs.Heaps.{Child, Swapped, Paired, Heaped, UpTo, Near, slot_key}
 
@@ -77,6 +77,16 @@ module _ {X : Type 0} (le : X → X → Bool) where
         same : (k : ℕ) → k < last → h k ≡ f k
         same k kl = t.other k (omega arith) (λ e. omega arith) ∙ s.other k (λ e. omega arith) (λ e. omega arith)
 
+lt_same : (u v a b : ℕ) → u < a → v < b → ltb u a ≡ ltb v b
+lt_same u v a b p q = lt-ltb u a p ∙ sym (lt-ltb v b q)
+
+le_same : (u v a b : ℕ) → a ≤ u → b ≤ v → ltb u a ≡ ltb v b
+le_same u v a b p q = le-ltb u a p ∙ sym (le-ltb v b q)
+
+-- one more below, but for the one above
+more_same : (k size : ℕ) → (k ≡ size → ⊥) → ltb k size ≡ ltb k (size + 1)
+more_same k size ne = ⊎_elim (λ h. lt_same k k size (size + 1) h (omega arith)) (λ h. le_same k k size (size + 1) h (omega arith)) (cases_lt k size)
+
 module _ {K : Type 0} where
   pub key_reset : (keys : List (Option K)) (slots places : List ℕ) (item : ℕ) (w : Option K) → Paired slots places (length keys) → item < length keys → Reset (slot_key keys slots) (slot_key (set keys item w) slots) (length keys) (get_or places item 0) w
   key_reset keys slots places item w p within = record { here = here; other = other } where
@@ -85,3 +95,30 @@ module _ {K : Type 0} where
 
     other : (k : ℕ) → k < length keys → (k ≡ get_or places item 0 → ⊥) → slot_key (set keys item w) slots k ≡ slot_key keys slots k
     other k kn ne = get_or-set_other keys item (get_or slots k 0) w None (λ e. ne (sym (p.slot_back k kn) ∙ ap (λ v. get_or places v 0) e))
+
+  pub added_held : (f g h : ℕ → Option K) (n size p : ℕ) (x : K) → ((i : ℕ) → i < n → is_some (f i) ≡ ltb i size) → Swapped f g p size → Reset g h n size (Some x) → size ≤ p → size < n → (i : ℕ) → i < n → is_some (h i) ≡ ltb i (size + 1)
+  added_held f g h n size p x old s t sp sn k kn =
+      ⊎_elim
+      (λ ks. ap is_some (t.here k ks) ∙ sym (lt-ltb k (size + 1) (omega arith)))
+      (λ ks. ap is_some (t.other k kn ks) ∙ ⊎_elim
+      (λ kp. ap is_some (s.first k kp) ∙ old size sn ∙ le_same size k size (size + 1) (omega arith) (omega arith))
+      (λ kp. ap is_some (s.other k kp ks) ∙ old k kn ∙ more_same k size ks)
+      (cases_eq k p))
+      (cases_eq k size)
+
+  pub reset_held : (f h : ℕ → Option K) (n size p : ℕ) (x : K) → ((i : ℕ) → i < n → is_some (f i) ≡ ltb i size) → Reset f h n p (Some x) → p < size → (i : ℕ) → i < n → is_some (h i) ≡ ltb i size
+  reset_held f h n size p x old t ps k kn =
+      ⊎_elim
+      (λ kp. ap is_some (t.here k kp) ∙ sym (lt-ltb k size (omega arith)))
+      (λ kp. ap is_some (t.other k kn kp) ∙ old k kn)
+      (cases_eq k p)
+
+  pub removed_held : (f g h : ℕ → Option K) (n last p : ℕ) → ((i : ℕ) → i < n → is_some (f i) ≡ ltb i (last + 1)) → Swapped f g p last → Reset g h n last None → p < last + 1 → last < n → (i : ℕ) → i < n → is_some (h i) ≡ ltb i last
+  removed_held f g h n last p old s t pl ln k kn =
+      ⊎_elim
+      (λ ks. ap is_some (t.here k ks) ∙ sym (le-ltb k last (omega arith)))
+      (λ ks. ap is_some (t.other k kn ks) ∙ ⊎_elim
+      (λ kp. ap is_some (s.first k kp) ∙ old last ln ∙ lt_same last k (last + 1) last (omega arith) (omega arith))
+      (λ kp. ap is_some (s.other k kp ks) ∙ old k kn ∙ sym (more_same k last ks))
+      (cases_eq k p))
+      (cases_eq k last)

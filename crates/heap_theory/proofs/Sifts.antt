@@ -1,11 +1,16 @@
 -- The steps of a sift. Assumes nothing.
-use Rattle.std.proofs.Common.{◌≡◌, ℕ, ◌<◌, Bool, true, sym, refl, ap, subst, ⊎_elim, arith}
+use Rattle.std.proofs.Common.{◌≡◌, ℕ, ◌+◌, ◌*◌, ◌<◌, Bool, true, ◌⊎◌, sym, refl, ap, subst, inl, inr, ⊎_elim, arith}
 use Rattle.std.proofs.lemmas.Bool.{cases_eq}
 use Rattle.heap_theory.specs.Heaps.{Child, Swapped, UpTo, DownFrom, Near, Heaped}
 
 module _ {X : Type 0} {le : X → X → Bool} (trans : (x y z : X) → le x y ≡ true → le y z ≡ true → le x z ≡ true) where
   via : {a b x y : X} → a ≡ x → b ≡ y → le x y ≡ true → le a b ≡ true
   via {a} {b} {x} {y} p q h = subst (λ v. le v b ≡ true) (sym p) (subst (λ v. le x v ≡ true) (sym q) h)
+
+  -- of two places that are all the children, the lesser
+  pub pick : (same : (x : X) → le x x ≡ true) (f : ℕ → X) (r s : ℕ) {j : ℕ} → le (f r) (f s) ≡ true → (j ≡ r) ⊎ (j ≡ s) → le (f r) (f j) ≡ true
+  pick same f r s h (inl e) = via refl (ap f e) (same (f r))
+  pick same f r s h (inr e) = via refl (ap f e) h
 
   pub up_step : (f g : ℕ → X) (size p q : ℕ) → Child q p → p < size → Swapped f g p q → le (f p) (f q) ≡ true → UpTo le f size p → UpTo le g size q
   up_step f g size p q c within s low u = record { rest = rest; over = over } where
@@ -86,3 +91,6 @@ near_down {le = le} f size p above u = record {
   rest = λ i j ch jn ip. ⊎_elim (λ e. subst (λ v. le (f i) (f v) ≡ true) (sym e) (above i (subst (Child i) e ch))) (λ e. u.rest i j ch jn ip e) (cases_eq j p);
   over = u.over;
 }
+
+pub child_is : (p j : ℕ) → Child p j → (j ≡ 2 * p + 1) ⊎ (j ≡ 2 * p + 1 + 1)
+child_is p j c = ⊎_elim inl (λ ne. inr (omega arith)) (cases_eq j (2 * p + 1))

@@ -15,5 +15,5 @@ returns-clause-order g c ok =
     let was = c.deref_mut.ensures.value in
     let paired = subst (λ l. Paired slots places (length l)) was c.exchange.ensures.pairs in
     let swaps = place_swapped old item slots was (place_read old c.requires.within c.index-slot.ensures) c.exchange.ensures.swaps in
-    let rising = added (shape_of old) leq item c.args.key slots places c.requires.within c.requires.free paired swaps ok in
+    let rising = (added (shape_of old) leq item c.args.key slots places c.requires.within c.requires.free paired swaps).nearly ok in
     c.sift_up.ensures.order (subst (λ l. Rising leq (set old.keys.items item (Some c.args.key)) l (old.size + 1) old.size) (sym (with_items_is old.slots slots (c.exchange.auto.slots ∙ c.deref_mut.ensures.len))) rising)

@@ -16,8 +16,8 @@ returns-then-slot-last-clause-order g c ok =
     let paired = subst (λ l. Paired slots places (length l)) was c.exchange.ensures.pairs in
     let here = place_read old c.requires.within c.index-slot.ensures in
     let swaps = place_swapped old item slots was here c.exchange.ensures.swaps in
-    let left = removed (shape_of old) g.met.K.Key.orders item slots places c.requires.within c.requires.present paired swaps ok in
-    let loose = left.loose (subst (λ slot. slot < old.size - 1) here c.if-slot-last.true) in
+    let left = removed (shape_of old) g.met.K.Key.orders item slots places c.requires.within c.requires.present paired swaps in
+    let loose = left.nearly ok (subst (λ slot. slot < old.size - 1) here c.if-slot-last.true) in
     c.settle.ensures.order (subst (λ l. Unsettled leq (set old.keys.items item None) l (old.size - 1) c.index-slot.result.now) (sym (with_items_is old.slots slots (c.exchange.auto.slots ∙ c.deref_mut.ensures.len)))
     (subst (Unsettled leq (set old.keys.items item None) slots (old.size - 1)) (sym here) loose))
 
@@ -32,6 +32,6 @@ returns-else-slot-last-clause-order g c ok =
     let paired = subst (λ l. Paired slots places (length l)) was c.exchange.ensures.pairs in
     let here = place_read old c.requires.within c.index-slot.ensures in
     let swaps = place_swapped old item slots was here c.exchange.ensures.swaps in
-    let left = removed (shape_of old) g.met.K.Key.orders item slots places c.requires.within c.requires.present paired swaps ok in
-    let heaped = left.heaped (subst (λ slot. old.size - 1 ≤ slot) here c.if-slot-last.false) in
+    let left = removed (shape_of old) g.met.K.Key.orders item slots places c.requires.within c.requires.present paired swaps in
+    let heaped = left.heaped ok (subst (λ slot. old.size - 1 ≤ slot) here c.if-slot-last.false) in
     subst (λ l. Ordered leq (set old.keys.items item None) l (old.size - 1)) (sym (with_items_is old.slots slots (c.exchange.auto.slots ∙ c.deref_mut.ensures.len))) heaped
