@@ -76,3 +76,21 @@ why_new p pairs n fault e m w = subst (λ b. Why b fault) is_ready w where
 
   is_ready : ready p pairs ≡ true
   is_ready = and_from (vacant pairs) (leb (items p) (length pairs)) (ap vacant e ∙ vacant_new Figure n) (le-leb (items p) (length pairs) (omega (arith, long)))
+
+-- the last of two answers, of which it is told what figure it tells
+pub last_told : (answers : List Answer) (f : Figure) (x : Answer) → Told answers f → x ≡ get_or answers (length answers - 1) x → x ≡ Is f
+last_told [] f x t e = absurd (let z : ◌≡◌ {A = ℕ} 0 1 = cc t.1 in omega arith)
+last_told (a ∷ []) f x t e = absurd (let z : ◌≡◌ {A = ℕ} 0 1 = cc t.1 in omega arith)
+last_told (a ∷ b ∷ []) f x t e = e ∙ told_is b f (let h : reply_of b ≡ is f = cc t.1 in h)
+  where
+    told_is : (y : Answer) (f : Figure) → reply_of y ≡ is f → y ≡ Is f
+    told_is (Answered b) f h = absurd (let z : ◌≡◌ {A = ℕ} 0 1 = cc in omega arith)
+    told_is (Wrote rows) f h = absurd (let z : ◌≡◌ {A = ℕ} 0 1 = cc in omega arith)
+    told_is (Is g) f h = let same : g ≡ f = cc in ap Is same
+    told_is (Refused e) f h = absurd (let z : ◌≡◌ {A = ℕ} 0 1 = cc in omega arith)
+last_told (a ∷ b ∷ c ∷ l) f x t e = absurd (let z : ◌≡◌ {A = ℕ} 0 1 = cc t.1 in omega arith)
+
+-- there are answers
+pub some_answer : (answers : List Answer) (f : Figure) → Told answers f → 0 < length answers
+some_answer [] f t = absurd (let z : ◌≡◌ {A = ℕ} 0 1 = cc t.1 in omega arith)
+some_answer (a ∷ l) f t = omega arith

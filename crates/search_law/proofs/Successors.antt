@@ -1,5 +1,5 @@
 -- What recording a successor leaves. Assumes nothing.
-use Rattle.std.proofs.Common.{◌≡◌, ℕ, ◌+◌, ◌<◌, Bool, true, false, ltb, List, length, get_or, set, MatchBool, Option, sym, refl, ◌∙◌, subst, arith, ltb-false, ltb-true}
+use Rattle.std.proofs.Common.{◌≡◌, ℕ, ◌+◌, ◌<◌, ◌≤◌, Bool, true, false, ltb, List, length, get_or, set, MatchBool, Option, sym, refl, ◌∙◌, subst, arith, ltb-false, ltb-true, le-ltb, lt-ltb}
 use Rattle.std.proofs.lemmas.Option.{slice_get-get_or}
 use Rattle.model.specs.Strips.{State, Problem, May, step}
 use Rattle.strips.specs.declared.state.State.{State as Words}
@@ -16,6 +16,17 @@ use Rattle.search_law.proofs.Opens.{same_turn, better_turn, better_moves, new_tu
 -- a read within the rows is the same whatever the default
 pub any : (rows : List Row) (i : ℕ) (x : Row) → i < length rows → get_or rows i x ≡ get_or rows i blank
 any rows i x lt = let h = slice_get-get_or rows i x lt in let k = slice_get-get_or rows i blank lt in cc
+
+module _ (rows : List Row) (t : List (Option Pair)) (i a j : ℕ) where
+  pub shortened_yes : (after : List Row) (u : List (Option Pair)) → (get_or rows i blank).steps + 1 < (get_or rows j blank).steps → after ≡ set rows j (better_row rows i a j) → u ≡ enqueued t j (key_of ((get_or rows i blank).steps + 1) (get_or rows j blank).estimate) → Shortened rows t i a j after u
+  shortened_yes after u less e f =
+      let P : Bool → Type 0 = λ b. MatchBool b ((after ≡ set rows j (better_row rows i a j)) × (u ≡ enqueued t j (key_of ((get_or rows i blank).steps + 1) (get_or rows j blank).estimate))) ((after ≡ rows) × (u ≡ t)) in
+      subst P (sym (lt-ltb ((get_or rows i blank).steps + 1) (get_or rows j blank).steps less)) (e, f)
+
+  pub shortened_no : (get_or rows j blank).steps ≤ (get_or rows i blank).steps + 1 → Shortened rows t i a j rows t
+  shortened_no le =
+      let P : Bool → Type 0 = λ b. MatchBool b ((rows ≡ set rows j (better_row rows i a j)) × (t ≡ enqueued t j (key_of ((get_or rows i blank).steps + 1) (get_or rows j blank).estimate))) ((rows ≡ rows) × (t ≡ t)) in
+      subst P (sym (le-ltb ((get_or rows i blank).steps + 1) (get_or rows j blank).steps le)) (refl, refl)
 
 module _ (p : Problem) (s : State) (v : State → ℕ) (A : Type 0) (rows : List Row) (t : List (Option Pair)) (used i a : ℕ) (m : Turning p s (board rows t used) i a) (may : May p a ((view rows used).row i).state) (next : Words) (is : standing next ≡ step p a ((view rows used).row i).state) where
   -- the successor had a row

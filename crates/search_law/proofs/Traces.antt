@@ -1,5 +1,5 @@
 -- The way back from a row is written as a plan. Assumes nothing.
-use Rattle.std.proofs.Common.{◌≡◌, ℕ, zero, suc, ◌-◌, ◌<◌, ◌≤◌, List, ◌∷◌, length, get_or, take, drop, set, sym, ap, ◌∙◌, subst, arith, length-set, length-take-le, drop-cons, get_or-set_same, drop-set-lt}
+use Rattle.std.proofs.Common.{◌≡◌, ℕ, zero, suc, ◌-◌, ◌<◌, ◌≤◌, List, ◌∷◌, length, get_or, take, drop, set, sym, refl, ap, ◌∙◌, subst, arith, length-set, length-take-le, drop-cons, get_or-set_same, drop-set-lt}
 use lib.Seq.{take-set-lt}
 use Rattle.model.specs.Strips.{State, Problem, Plan}
 use Rattle.rows.specs.declared.row.Row.{Row}
@@ -11,6 +11,10 @@ use Rattle.search_law.specs.Boards.{Depth, way_back}
 pub depth_on : (rows : List Row) (n i : ℕ) → Depth rows n i → 0 < n → 0 < i
 depth_on rows zero i d pos = absurd (omega (arith, pos))
 depth_on rows (suc n) i d pos = d.0
+
+pub depth_pos : (rows : List Row) (n i : ℕ) → Depth rows n i → 0 < i → 0 < n
+depth_pos rows zero i d pos = absurd (omega (arith, d))
+depth_pos rows (suc n) i d pos = omega arith
 
 pub depth_less : (rows : List Row) (n i : ℕ) → Depth rows n i → 0 < i → Depth rows (n - 1) (get_or rows i blank).from
 depth_less rows zero i d pos = absurd (omega (arith, d))
@@ -31,6 +35,10 @@ pub back_step : (rows : List Row) (n i : ℕ) (rest : List ℕ) → Depth rows n
 back_step rows zero i rest d pos = absurd (omega (arith, d))
 back_step rows (suc n) i rest d pos = let e : n ≡ suc n - 1 = omega arith in ap (λ m. way_back rows m (get_or rows i blank).from ((get_or rows i blank).action ∷ rest)) e
 
+pub back_done : (rows : List Row) (n i : ℕ) (rest : List ℕ) → Depth rows n i → i ≡ 0 → (n ≡ 0) × (way_back rows n i rest ≡ rest)
+back_done rows zero i rest d z = (refl, refl)
+back_done rows (suc n) i rest d z = absurd (omega (arith, d.0))
+
 -- the way back from a row, and what is a plan from there, are a plan
 pub back_plan : (p : Problem) (s : State) (rows : List Row) (used : ℕ) → Recorded p s (view rows used) → (n i : ℕ) (rest : List ℕ) → i < used → Depth rows n i → Plan p ((view rows used).row i).state rest → Plan p s (way_back rows n i rest)
 back_plan p s rows used b zero i rest lt d plan = subst (λ u. Plan p u rest) (ap (λ k. ((view rows used).row k).state) d ∙ b.start) plan
@@ -38,3 +46,6 @@ back_plan p s rows used b (suc n) i rest lt d plan =
     let c = b.came i d.0 lt in
     let on = subst (λ u. Plan p u rest) (sym c.is) plan in
     back_plan p s rows used b n (get_or rows i blank).from ((get_or rows i blank).action ∷ rest) c.within d.1 ((c.may, on.0), on.1)
+
+pub came_facts : (p : Problem) (s : State) (rows : List Row) (used : ℕ) → Recorded p s (view rows used) → (k : ℕ) → 0 < k → k < used → ((get_or rows k blank).from < used) × ((get_or rows (get_or rows k blank).from blank).steps < (get_or rows k blank).steps)
+came_facts p s rows used b k pos lt = let c = b.came k pos lt in (c.within, omega (arith, c.less))

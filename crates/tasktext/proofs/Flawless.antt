@@ -1,5 +1,5 @@
 -- The parts of a load that has taken its end frame make a task.
-use Rattle.std.proofs.Common.{◌≡◌, ℕ, ◌+◌, ◌<◌, ◌≤◌, true, eqb, ltb, List, [], ◌∷◌, length, vec_items, None, Ok, Err, Vec, Result, IsOk, refl, ap, ◌∙◌, arith}
+use Rattle.std.proofs.Common.{◌≡◌, ℕ, ◌+◌, ◌<◌, ◌≤◌, true, eqb, ltb, List, [], ◌∷◌, length, vec_items, Some, None, Option, Ok, Err, Vec, Result, IsOk, refl, ap, ◌∙◌, arith}
 use Rattle.std.proofs.lemmas.Bool.{and_parts, ne_eqb, le-ltb, cond-true, cond-false}
 use Rattle.strips.specs.declared.fault.TaskFault.{TaskFault}
 use Rattle.strips.specs.declared.action.Action.{Action}
@@ -27,3 +27,6 @@ pub makes : (n : ℕ) (actions : Vec Action Global) (goal start : FactList 255) 
     → flaw n (vec_items actions) (listed goal) (listed start) ≡ None → Made n actions goal start r → IsOk r
 makes n actions goal start (Ok task) none h = refl
 makes n actions goal start (Err e) none h = let flawed = h.0 in cc
+
+pub clash : (o : Option TaskFault) (f : TaskFault) → o ≡ None → o ≡ Some f → ⊥
+clash o f a b = let z : ◌≡◌ {A = ℕ} 0 1 = cc in omega arith

@@ -1,8 +1,9 @@
 -- What a load holds, as the frames that it has taken.
 use Rattle.std.proofs.Common.{◌≡◌, ◌≤◌, true, eqb, [], ◌∷◌, ◌++◌, map, length, None, vec_items, vec_len, sym, refl, ap, ◌∙◌, subst, arith}
-use Rattle.std.proofs.lemmas.List.{length-map}
+use Rattle.std.proofs.lemmas.List.{length-map, nil_from_length}
 use Rattle.std.proofs.lemmas.Bool.{and_from, eq-eqb, eqb-true}
-use Rattle.textspec.specs.declared.due.Due.TheVariants.{Nothing}
+use Rattle.textspec.specs.declared.due.Due.{Due}
+use Rattle.textspec.specs.declared.due.Due.TheVariants.{Head, Nothing}
 use Rattle.strips.specs.Lists.{listed}
 use Rattle.strips.specs.Actions.{action_of}
 use Rattle.textspec.specs.Frames.{frames_of, head_frame, action_frame, goal_frame, start_frame, end_frame}
@@ -12,7 +13,7 @@ use Rattle.tasktext.specs.Stage.{in_order, before}
 use Rattle.tasktext.specs.Loads.{acts_of, taken}
 use Rattle.strips.specs.Tasks.{flaw}
 use Rattle.tasktext.proofs.Flawless.{flawless}
-use Rattle.tasktext.proofs.Stages.{four, due_of, few}
+use Rattle.tasktext.proofs.Stages.{four, count, counted, due_of, few}
 
 module _ (l : Load) where
   pub size : length (acts_of l) ≡ vec_len l.actions
@@ -24,6 +25,9 @@ module _ (l : Load) where
   pub due_is : l.due ≡ due_after (taken l)
   due_is = due_of l.facts l.wanted (acts_of l) (listed l.goal) (listed l.start) l.due ordered
 
+  pub number : (due : Due) → l.due ≡ due → length (taken l) ≡ count due (vec_len l.actions)
+  number due e = counted l.facts l.wanted (acts_of l) (listed l.goal) (listed l.start) l.due ∙ ap (count l.due) size ∙ ap (λ d. count d (vec_len l.actions)) e
+
   pub small : vec_len l.actions ≤ 512
   small = few l.due l.facts l.wanted (vec_len l.actions) l.order
 
@@ -34,6 +38,11 @@ module _ (l : Load) where
       let w : l.wanted ≡ length (acts_of l) = sym (eqb-true _ _ q.3) ∙ sym size in
       ap (λ d. before d l.facts l.wanted (acts_of l) (listed l.goal) (listed l.start)) e
       ∙ ap (λ n. head_frame l.facts n ∷ (map action_frame (acts_of l) ++ goal_frame (listed l.goal) ∷ start_frame (listed l.start) ∷ end_frame ∷ [])) w
+
+  pub none_yet : l.due ≡ Head → vec_items l.actions ≡ []
+  none_yet e =
+      let h = subst (λ d. in_order d l.facts l.wanted (vec_len l.actions) ≡ true) e l.order in
+      nil_from_length (vec_items l.actions) (sym l.actions.ok.0 ∙ eqb-true _ _ h)
 
   pub flawless_load : l.due ≡ Nothing → flaw l.facts (vec_items l.actions) (listed l.goal) (listed l.start) ≡ None
   flawless_load e =
