@@ -6,9 +6,16 @@ mod arguments;
 mod words;
 
 use anyhow::anyhow;
-use arguments::{Asked, asked_for};
-use choices::answering::answer;
-use choices::choice::QueueChoice;
+use arguments::asked_for;
+use choices::choice::RuleChoice;
+use figure::figure::Figure;
+use queue::queue::Queue;
+use queue::table::TableQueue;
+use rules::additive::AdditiveRule;
+use rules::largest::MaxRule;
+use rules::rule::CostRule;
+use session::call::Call;
+use session::session::Session;
 use std::env;
 use strips::task::Task;
 use wording::input::task_on_input;
@@ -27,19 +34,20 @@ none for what is out of reach. A refused text is told with the refusal's
 number, the line, the place and what is wrong. The status is 1 only where the
 job could not be done.";
 
-// Works the calls over a table, which gives rows of equal figures in the order of their items.
-fn work(rt: &HostRuntime, task: Task, asked: &Asked) -> anyhow::Result<()> {
+// Works the calls over a table, which gives rows of equal figures in the order of their items. The table is made here, so that an error
+// tells which wanted memory, it or the session.
+fn work<R: CostRule + Drop>(
+    rt: &HostRuntime,
+    task: Task,
+    rule: R,
+    calls: &[Call],
+) -> anyhow::Result<()> {
     let facts = usize::from(task.facts());
-    let Ok(answers) = answer(
-        rt.alloc(),
-        task,
-        asked.rule,
-        QueueChoice::Table,
-        &asked.calls,
-    ) else {
+    let queue: TableQueue<Figure> = TableQueue::new(rt.alloc(), task.item_count())?;
+    let Ok((_, answers)) = Session::open_and_work(rt.alloc(), task, rule, queue, calls) else {
         return Err(anyhow!("no memory for a session"));
     };
-    for (call, answer) in asked.calls.iter().zip(&answers) {
+    for (call, answer) in calls.iter().zip(&answers) {
         tell(rt, facts, *call, answer)?;
     }
     Ok(())
@@ -54,7 +62,11 @@ fn run(rt: &HostRuntime) -> anyhow::Result<()> {
     }
     let asked = asked_for(rt)?;
     match task_on_input(rt)? {
-        Ok(task) => work(rt, task, &asked),
+        // A match, since each rule is another type.
+        Ok(task) => match asked.rule {
+            RuleChoice::Additive => work(rt, task, AdditiveRule, &asked.calls),
+            RuleChoice::Max => work(rt, task, MaxRule, &asked.calls),
+        },
         Err(fault) => Ok(println!(rt; "{fault}")?),
     }
 }
